@@ -1,9 +1,10 @@
 -- The boundaries of a text by its segments, and what an edit reads.
-use Rattle.std.proofs.Common.{◌≡◌, ℕ, zero, suc, ◌+◌, ◌≤◌, Bool, true, false, ltb, eqb, List, [], ◌∷◌, ◌++◌, Some}
-use Rattle.std.proofs.Common.{length, map, sym, refl, ap, ◌∙◌, inl, inr, ⊎_elim, arith}
-use Rattle.std.specs.Prelude.{filter, sum_by, is_some}
+use Rattle.std.proofs.Common.{◌≡◌, ℕ, zero, suc, ◌≤◌, Bool, true, false, ltb, List, [], ◌∷◌, ◌++◌, Some, append-nil, length, map, sym, refl, ap, ◌∙◌, arith}
+use Rattle.std.specs.Prelude.{filter, sum_by}
 use Rattle.std.specs.List.{AllByRecursion}
-use Rattle.std.proofs.lemmas.Bool.{eqb-true, eq-eqb, cases_Bool, cond-true, cond-false, false≢true, lt-ltb, le-ltb}
+use Rattle.std.proofs.lemmas.Bool.{cond-true, cond-false, false≢true, lt-ltb}
+use Rattle.std.proofs.lemmas.Bool.Decides.{nat_tests}
+use Rattle.std.proofs.lemmas.List.Elements.{filter-append}
 use Rattle.std.proofs.lemmas.List.Sums.{sum_by-cons}
 use Rattle.rbbi_model.specs.Lists.{Member}
 use Rattle.rbbi_model.specs.Tables.{Table}
@@ -25,9 +26,7 @@ module _ (table : Table) (x : List ℕ) where
   unfolding ends_of
   ends_follow zero last [] are few = refl
   ends_follow zero last (s ∷ segments) are few = absurd (omega (arith, few))
-  ends_follow (suc most) last [] are few =
-      cond-false (ltb last.at (length x)) (next_boundary table x last.at ∷ follow_by (next_boundary table x) (length x) most (next_boundary table x last.at)) []
-      (le-ltb last.at (length x) (omega (arith, are)))
+  ends_follow (suc most) last [] are few = grind (arith, nat_tests)
   ends_follow (suc most) last (s ∷ segments) are few =
       let next : Boundary = next_boundary table x last.at in
       let here : s.at ≡ last.at = ap (λ t. t.at) are.1 in
@@ -66,39 +65,18 @@ module _ (table : Table) (x : List ℕ) where
 -- the first place of a list that passes the test
 pub first_passes : (test : ℕ → Bool) (bs : List Boundary) (before : List ℕ) (p : ℕ) (after : List ℕ) → places bs ≡ before ++ p ∷ after →
     AllByRecursion (λ q. test q ≡ false) before → test p ≡ true → first_place test bs ≡ Some p
-first_passes test [] [] p after is fails passes = absurd (let e : [] ≡ p ∷ after = is in nothing p after e)
-  where
-    nothing : (p : ℕ) (after : List ℕ) → [] ≡ p ∷ after → ⊥
-    nothing p after e = cc
-first_passes test [] (q ∷ before) p after is fails passes = absurd (nothing q (before ++ p ∷ after) is)
-  where
-    nothing : (p : ℕ) (after : List ℕ) → [] ≡ p ∷ after → ⊥
-    nothing p after e = cc
-first_passes test (b ∷ bs) [] p after is fails passes =
-    let here : b.at ≡ p = cc in
-    cond-true (test b.at) (Some b.at) (first_place test bs) (ap test here ∙ passes) ∙ ap Some here
+first_passes test [] [] p after is fails passes = grind arith
+first_passes test [] (q ∷ before) p after is fails passes = grind arith
+first_passes test (b ∷ bs) [] p after is fails passes = grind arith
 first_passes test (b ∷ bs) (q ∷ before) p after is fails passes =
-    let here : b.at ≡ q = cc in
-    let rest : places bs ≡ before ++ p ∷ after = cc in
-    cond-false (test b.at) (Some b.at) (first_place test bs) (ap test here ∙ fails.0) ∙ first_passes test bs before p after rest fails.1 passes
+    let rest : places bs ≡ before ++ p ∷ after = cc in grind (arith, first_passes test bs before p after rest fails.1 passes, fails.0)
 
 -- a sum over the boundaries at certain places is one over these places
 pub sum_at_places : (f : ℕ → ℕ) (p : ℕ → Bool) (bs : List Boundary) →
     sum_by (λ b. f b.at) (filter (λ b. p b.at) bs) ≡ sum_by f (filter p (places bs))
 sum_at_places f p [] = refl
 sum_at_places f p (b ∷ bs) =
-    ⊎_elim
-    (λ holds.
-    ap (λ l. sum_by (λ b. f b.at) l) (cond-true (p b.at) (b ∷ filter (λ b. p b.at) bs) (filter (λ b. p b.at) bs) holds)
-    ∙ sum_by-cons (λ b. f b.at) b (filter (λ b. p b.at) bs)
-    ∙ ap (λ n. f b.at + n) (sum_at_places f p bs)
-    ∙ sym (sum_by-cons f b.at (filter p (places bs)))
-    ∙ ap (λ l. sum_by f l) (sym (cond-true (p b.at) (b.at ∷ filter p (places bs)) (filter p (places bs)) holds)))
-    (λ fails.
-    ap (λ l. sum_by (λ b. f b.at) l) (cond-false (p b.at) (b ∷ filter (λ b. p b.at) bs) (filter (λ b. p b.at) bs) fails)
-    ∙ sum_at_places f p bs
-    ∙ ap (λ l. sum_by f l) (sym (cond-false (p b.at) (b.at ∷ filter p (places bs)) (filter p (places bs)) fails)))
-    (cases_Bool (p b.at))
+    grind (arith, sum_by-cons (λ b. f b.at) b (filter (λ b. p b.at) bs), sum_by-cons f b.at (filter p (places bs)), sum_at_places f p bs)
 
 pub filter_none : (p : ℕ → Bool) (ns : List ℕ) → AllByRecursion (λ n. p n ≡ false) ns → filter p ns ≡ []
 filter_none p [] none = refl
@@ -108,20 +86,6 @@ pub filter_all : (p : ℕ → Bool) (ns : List ℕ) → AllByRecursion (λ n. p 
 filter_all p [] all = refl
 filter_all p (n ∷ ns) all = cond-true (p n) (n ∷ filter p ns) (filter p ns) all.0 ∙ ap (λ l. n ∷ l) (filter_all p ns all.1)
 
-pub filter_parts : (p : ℕ → Bool) (ms ns : List ℕ) → filter p (ms ++ ns) ≡ filter p ms ++ filter p ns
-filter_parts p [] ns = refl
-filter_parts p (m ∷ ms) ns =
-    ⊎_elim
-    (λ holds.
-    cond-true (p m) (m ∷ filter p (ms ++ ns)) (filter p (ms ++ ns)) holds
-    ∙ ap (λ l. m ∷ l) (filter_parts p ms ns)
-    ∙ ap (λ l. l ++ filter p ns) (sym (cond-true (p m) (m ∷ filter p ms) (filter p ms) holds)))
-    (λ fails.
-    cond-false (p m) (m ∷ filter p (ms ++ ns)) (filter p (ms ++ ns)) fails
-    ∙ filter_parts p ms ns
-    ∙ ap (λ l. l ++ filter p ns) (sym (cond-false (p m) (m ∷ filter p ms) (filter p ms) fails)))
-    (cases_Bool (p m))
-
 -- the sum of a part of the places
 pub sum_of_part : (f : ℕ → ℕ) (p : ℕ → Bool) (bs : List Boundary) (before part after : List ℕ) → places bs ≡ before ++ (part ++ after) →
     AllByRecursion (λ n. p n ≡ false) before → AllByRecursion (λ n. p n ≡ true) part → AllByRecursion (λ n. p n ≡ false) after →
@@ -129,22 +93,17 @@ pub sum_of_part : (f : ℕ → ℕ) (p : ℕ → Bool) (bs : List Boundary) (bef
 sum_of_part f p bs before part after is none all none' =
     sum_at_places f p bs
     ∙ ap (λ l. sum_by f (filter p l)) is
-    ∙ ap (λ l. sum_by f l) (filter_parts p before (part ++ after))
+    ∙ ap (λ l. sum_by f l) (filter-append p before (part ++ after))
     ∙ ap (λ l. sum_by f (l ++ filter p (part ++ after))) (filter_none p before none)
-    ∙ ap (λ l. sum_by f l) (filter_parts p part after)
+    ∙ ap (λ l. sum_by f l) (filter-append p part after)
     ∙ ap (λ l. sum_by f (filter p part ++ l)) (filter_none p after none')
-    ∙ ap (λ l. sum_by f l) (let e : filter p part ++ [] ≡ filter p part = append_nil (filter p part) in e)
+    ∙ ap (λ l. sum_by f l) (append-nil (filter p part))
     ∙ ap (λ l. sum_by f l) (filter_all p part all)
-  where
-    append_nil : (l : List ℕ) → l ++ [] ≡ l
-    append_nil [] = refl
-    append_nil (n ∷ l) = ap (λ k. n ∷ k) (append_nil l)
 
 pub sum_of_reads : (f : ℕ → ℕ) (segments : List Segment) → sum_by (λ segment. f segment.at) segments ≡ sum_by f (map (λ segment. segment.at) segments)
 sum_of_reads f [] = refl
 sum_of_reads f (s ∷ segments) =
-    sum_by-cons (λ segment. f segment.at) s segments ∙ ap (λ n. f s.at + n) (sum_of_reads f segments)
-    ∙ sym (sum_by-cons f s.at (map (λ segment. segment.at) segments))
+    grind (arith, sum_by-cons (λ segment. f segment.at) s segments, sum_of_reads f segments, sum_by-cons f s.at (map (λ segment. segment.at) segments))
 
 -- what holds of each segment's place holds of each place
 pub places_all : (P : ℕ → Type 0) (segments : List Segment) → AllByRecursion (λ segment. P segment.at) segments →
@@ -155,26 +114,8 @@ places_all P (s ∷ segments) all = (all.0, places_all P segments all.1)
 -- a place is told to be one exactly where it is
 pub place_is_member : (bs : List Boundary) (p : ℕ) → is_place_of bs p ≡ true → Member (places bs) p
 place_is_member [] p is = absurd (false≢true is)
-place_is_member (b ∷ bs) p is =
-    ⊎_elim
-    (λ here. inl (eqb-is b.at p here))
-    (λ not. inr (place_is_member bs p (sym (ap (λ o. is_some o) (cond-false (eqb b.at p) (Some b.at) (first_place (λ at. eqb at p) bs) not)) ∙ is)))
-    (cases_Bool (eqb b.at p))
-  where
-    eqb-is : (m n : ℕ) → eqb m n ≡ true → m ≡ n
-    eqb-is m n holds = eqb-true m n holds
+place_is_member (b ∷ bs) p is = grind (arith, nat_tests, place_is_member bs p)
 
 pub member_is_place : (bs : List Boundary) (p : ℕ) → Member (places bs) p → is_place_of bs p ≡ true
 member_is_place [] p is = absurd is
-member_is_place (b ∷ bs) p is =
-    ⊎_elim
-    (λ here. ap (λ o. is_some o) (cond-true (eqb b.at p) (Some b.at) (first_place (λ at. eqb at p) bs) here))
-    (λ not.
-    ⊎_elim
-    (λ same. absurd (false≢true (sym not ∙ eq_eqb b.at p same)))
-    (λ later. ap (λ o. is_some o) (cond-false (eqb b.at p) (Some b.at) (first_place (λ at. eqb at p) bs) not) ∙ member_is_place bs p later)
-    is)
-    (cases_Bool (eqb b.at p))
-  where
-    eq_eqb : (m n : ℕ) → m ≡ n → eqb m n ≡ true
-    eq_eqb m n same = eq-eqb m n same
+member_is_place (b ∷ bs) p is = grind (arith, nat_tests, member_is_place bs p)

@@ -1,8 +1,6 @@
 -- What an edit makes of the pieces, put together.
-use Rattle.std.proofs.Common.{◌≡◌, ℕ, ◌+◌, ◌-◌, ◌<◌, ◌≤◌, ◌++◌, ◌∷◌, [], List, map, take, drop, sym, refl, ap, ◌∙◌, subst, ⊎_elim}
-use Rattle.std.proofs.Common.{arith, append_assoc}
+use Rattle.std.proofs.Common.{◌≡◌, ℕ, ◌+◌, ◌-◌, ◌<◌, ◌≤◌, ◌++◌, ◌∷◌, [], List, map, take, drop, sym, refl, ap, ◌∙◌, subst, arith, append_assoc}
 use Rattle.std.specs.List.{AllByRecursion}
-use Rattle.std.proofs.lemmas.Bool.{cases_eq}
 use Rattle.std.proofs.lemmas.List.{take-take, drop-drop}
 use Rattle.rbbi_model.specs.Lists.{IsRising}
 use Rattle.rbbi_model.proofs.Lists.{all_left, all_right, all_through}
@@ -13,8 +11,7 @@ use Rattle.rbbi_tally.specs.declared.spot.Spot.{Spot}
 use Rattle.rbbi_tally.specs.inner.Kept.{at_of}
 use Rattle.rbbi_tally.specs.inner.Segments.{Segment, moved, place_of}
 use Rattle.rbbi_tally.specs.inner.Editing.{FitText, CanMove, CanShift}
-use Rattle.rbbi_tally.specs.inner.Pieces.{segments_by, segments_in, contents, farthest, most_looked, BeginAtStart, ArePieces}
-use Rattle.rbbi_tally.specs.inner.Pieces.{IsUpTo}
+use Rattle.rbbi_tally.specs.inner.Pieces.{segments_by, segments_in, contents, farthest, most_looked, BeginAtStart, ArePieces, IsUpTo}
 use Rattle.rbbi_tally.proofs.PieceLists.{contents-append, farthest_least}
 use Rattle.rbbi_tally.proofs.Joining.{rising_right}
 
@@ -32,15 +29,7 @@ same_front ps qs front past same order =
 -- the pieces before the first spot don't reach behind the last one
 pub front_before : (first met : Spot) (front past : ℕ) → IsUpTo first met → met.piece ≤ past → (0 < met.item → met.piece < past) →
     (first.item ≡ 0 → front ≡ first.piece) → front ≤ first.piece + 1 → front ≤ past
-front_before first met front past order within cut whole parted =
-    ⊎_elim
-    (λ less. omega (arith, less))
-    (λ same.
-    ⊎_elim
-    (λ none. omega (arith, whole none, same.0))
-    (λ some. omega (arith, same.0, cut (omega (arith, same.1))))
-    (cases_eq first.item 0))
-    order
+front_before first met front past order within cut whole parted = grind arith
 
 can_shift_piece : (edit : Edit) (start : ℕ) (k : Kept) (items : List Kept) (first reach : ℕ) → reach ≡ farthest (segments_by first (k ∷ items)) → at_of k ≡ 0 →
     AllByRecursion (CanMove edit start) (segments_by first (k ∷ items)) →
@@ -52,10 +41,7 @@ can_shift_piece edit start k items first reach is begin all =
     let ahead = can.ahead in
     let small = can.small in
     let within = farthest_least bound (segments_by first (k ∷ items)) (all_through (CanMove edit start) (λ (s : Segment). s.look ≤ bound)
-    (λ s c. omega (arith, c.behind, c.ahead, c.small)) (segments_by first (k ∷ items)) all) in (
-      omega arith,
-      omega arith,
-    )
+    (λ s c. omega (arith, c.behind, c.ahead, c.small)) (segments_by first (k ∷ items)) all) in (omega arith, omega arith)
 
 pub can_shift : (edit : Edit) (start : ℕ) (ps : List Piece) → ArePieces ps → AllByRecursion (CanMove edit start) (contents ps) →
     AllByRecursion (CanShift edit) ps

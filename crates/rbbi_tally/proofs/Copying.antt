@@ -1,5 +1,6 @@
 -- Segments that are copied into pieces of their own.
-use Rattle.std.proofs.Common.{◌≡◌, ℕ, zero, suc, ◌+◌, ◌-◌, ◌<◌, ◌≤◌, ◌++◌, ◌∷◌, [], List, length, map, take, drop, get_or, sym, ap, ◌∙◌, subst, arith, append_assoc}
+use Rattle.std.proofs.Common.{◌≡◌, ℕ, zero, suc, ◌+◌, ◌-◌, ◌<◌, ◌≤◌, ◌++◌, ◌∷◌, [], List, length, map, take, drop, get_or, sym, ap, ◌∙◌, subst, arith}
+use Rattle.std.proofs.Common.{append_assoc}
 use Rattle.std.specs.List.{AllByRecursion}
 use Rattle.std.proofs.lemmas.List.{take-map, drop-map, take-append-drop, drop-drop, append-nil}
 use Rattle.rbbi_model.specs.Lists.{IsRising}
@@ -34,7 +35,8 @@ rising_take (suc (suc n)) (m ∷ k ∷ ns) rise = (rise.0, rising_take (suc n) (
 
 pub rising_part : (n m : ℕ) (items : List Kept) → IsRising (map at_of items) → IsRising (map at_of (take n (drop m items)))
 rising_part n m items rise =
-    subst IsRising (ap (take n) (drop-map at_of m items) ∙ take-map at_of n (drop m items)) (rising_take n (drop m (map at_of items)) (rising_drop m (map at_of items) rise))
+    subst IsRising (ap (take n) (drop-map at_of m items) ∙ take-map at_of n (drop m items))
+    (rising_take n (drop m (map at_of items)) (rising_drop m (map at_of items) rise))
 
 pub part_is : (start n m : ℕ) (items : List Kept) → segments_by start (take n (drop m items)) ≡ take n (drop m (segments_by start items))
 part_is start n m items = sym (ap (take n) (drop-map (segment_of start) m items) ∙ take-map (segment_of start) n (drop m items))
@@ -42,7 +44,8 @@ part_is start n m items = sym (ap (take n) (drop-map (segment_of start) m items)
 pub fit_part : (start n m : ℕ) (items : List Kept) → AllByRecursion FitText (segments_by start items) →
     AllByRecursion FitText (segments_by start (take n (drop m items)))
 fit_part start n m items fit =
-    subst (AllByRecursion FitText) (sym (part_is start n m items)) (all_take FitText n (drop m (segments_by start items)) (all_drop FitText m (segments_by start items) fit))
+    subst (AllByRecursion FitText) (sym (part_is start n m items))
+    (all_take FitText n (drop m (segments_by start items)) (all_drop FitText m (segments_by start items) fit))
 
 -- one piece more
 pub piece_more : (ps ps' : List Piece) (p : Piece) (start from to : ℕ) (items : List Kept) → ps' ≡ ps ++ p ∷ [] → from ≤ to →
@@ -52,7 +55,8 @@ piece_more ps ps' p start from to items pushed order is parts =
     let all : List Segment = segments_by start items in
     let there : from + (to - from) ≡ to = omega arith in
     ap (λ l. contents l ++ drop to all) pushed
-    ∙ ap (λ l. l ++ drop to all) (contents-append ps (p ∷ []) ∙ ap (λ l. contents ps ++ l) (append-nil (segments_in p) ∙ is ∙ part_is start (to - from) from items))
+    ∙ ap (λ l. l ++ drop to all) (contents-append ps (p ∷ [])
+    ∙ ap (λ l. contents ps ++ l) (append-nil (segments_in p) ∙ is ∙ part_is start (to - from) from items))
     ∙ append_assoc (contents ps) (take (to - from) (drop from all)) (drop to all)
     ∙ ap (λ n. contents ps ++ (take (to - from) (drop from all) ++ drop n all)) (sym there)
     ∙ ap (λ l. contents ps ++ (take (to - from) (drop from all) ++ l)) (sym (drop-drop (to - from) from all))

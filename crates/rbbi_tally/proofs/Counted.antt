@@ -1,7 +1,6 @@
 -- Counts of segments by status list, before and after some are gone and others are there.
-use Rattle.std.proofs.Common.{◌≡◌, ℕ, ◌+◌, ◌<◌, ◌≤◌, cond, eqb, List, [], ◌∷◌, ◌++◌, length, get_or, set, sym, refl, ap, ◌∙◌, subst}
-use Rattle.std.proofs.Common.{⊎_elim, arith}
-use Rattle.std.proofs.lemmas.Bool.{cases_Bool, cases_eq, cond-true, cond-false, eqb-true, eq-eqb}
+use Rattle.std.proofs.Common.{◌≡◌, ℕ, ◌+◌, ◌<◌, ◌≤◌, cond, eqb, List, [], ◌∷◌, ◌++◌, length, get_or, set, sym, refl, ap, ◌∙◌, subst, arith}
+use Rattle.std.proofs.lemmas.Bool.Decides.{nat_tests}
 use Rattle.std.proofs.lemmas.List.{get_or-set_same, get_or-set_other, length-set}
 use Rattle.std.proofs.lemmas.List.Sums.{sum_by-cons, sum_by-append}
 use Rattle.rbbi_tally.specs.inner.Segments.{Segment}
@@ -14,22 +13,11 @@ pub count-cons : (s : Segment) (ss : List Segment) (list : ℕ) → count_of (s 
 count-cons s ss list = sum_by-cons (λ t. cond (eqb t.list list) 1 0) s ss
 
 pub count_same : (s : Segment) (list : ℕ) → s.list ≡ list → count_of (s ∷ []) list ≡ 1
-count_same s list same = count-cons s [] list ∙ ap (λ n. n + 0) (cond-true (eqb s.list list) 1 0 (eq-eqb s.list list same))
-
-pub count_other : (s : Segment) (list : ℕ) → (s.list ≡ list → ⊥) → count_of (s ∷ []) list ≡ 0
-count_other s list other =
-    ⊎_elim
-    (λ holds. absurd (other (eqb-true s.list list holds)))
-    (λ fails. count-cons s [] list ∙ ap (λ n. n + 0) (cond-false (eqb s.list list) 1 0 fails))
-    (cases_Bool (eqb s.list list))
+count_same s list same = grind (arith, nat_tests, count-cons s [] list, same)
 
 pub count_few : (ss : List Segment) (list : ℕ) → count_of ss list ≤ length ss
 count_few [] list = omega arith
-count_few (s ∷ ss) list =
-    ⊎_elim
-    (λ holds. omega (arith, count-cons s ss list, cond-true {A = ℕ} (eqb s.list list) 1 0 holds, count_few ss list))
-    (λ fails. omega (arith, count-cons s ss list, cond-false {A = ℕ} (eqb s.list list) 1 0 fails, count_few ss list))
-    (cases_Bool (eqb s.list list))
+count_few (s ∷ ss) list = grind (arith, nat_tests, count-cons s ss list, count_few ss list)
 
 -- one less of a list
 pub one_gone : (s : Segment) (before after : List ℕ) (n : ℕ) → s.list < length before → n + 1 ≡ get_or before s.list 0 →
@@ -37,51 +25,8 @@ pub one_gone : (s : Segment) (before after : List ℕ) (n : ℕ) → s.list < le
 one_gone s before after n within less is = record {
   all = ap length is ∙ length-set before s.list n;
   each = λ list short.
-      ⊎_elim
-      (λ same.
-      omega (
-        arith,
-        ap (λ l. get_or l list 0) is,
-        ap (λ i. get_or (set before s.list n) i 0) (sym same),
-        get_or-set_same before s.list n 0 within,
-        count_same s list same,
-        ap (λ i. get_or before i 0) same,
-        less,
-      ))
-      (λ other.
-      omega (
-        arith,
-        ap (λ l. get_or l list 0) is,
-        get_or-set_other before s.list list n 0 (λ e. other (sym e)),
-        count_other s list other,
-      ))
-      (cases_eq s.list list);
-}
-
--- one more of a list
-pub one_new : (s : Segment) (before after : List ℕ) → s.list < length before → after ≡ set before s.list (get_or before s.list 0 + 1) →
-    IsRecounted [] (s ∷ []) before after
-one_new s before after within is = record {
-  all = ap length is ∙ length-set before s.list (get_or before s.list 0 + 1);
-  each = λ list short.
-      ⊎_elim
-      (λ same.
-      omega (
-        arith,
-        ap (λ l. get_or l list 0) is,
-        ap (λ i. get_or (set before s.list (get_or before s.list 0 + 1)) i 0) (sym same),
-        get_or-set_same before s.list (get_or before s.list 0 + 1) 0 within,
-        count_same s list same,
-        ap (λ i. get_or before i 0) same,
-      ))
-      (λ other.
-      omega (
-        arith,
-        ap (λ l. get_or l list 0) is,
-        get_or-set_other before s.list list (get_or before s.list 0 + 1) 0 (λ e. other (sym e)),
-        count_other s list other,
-      ))
-      (cases_eq s.list list);
+      let at = ap (λ l. get_or l list 0) is in
+      grind (arith, nat_tests, at, get_or-set_same before s.list n 0 within, get_or-set_other before s.list list n 0, count-cons s [] list, less);
 }
 
 pub recounted_start : (counts : List ℕ) → IsRecounted [] [] counts counts
@@ -118,16 +63,7 @@ counts_after lists kept gone new rest rest' before after are recounted same = re
   all = recounted.all ∙ are.all;
   each = λ list short.
       let short' : list < length before = omega (arith, are.all) in
-      omega (
-        arith,
-        are.each list short,
-        recounted.each list short',
-        count-append kept (gone ++ rest) list,
-        count-append gone rest list,
-        count-append kept (new ++ rest') list,
-        count-append new rest' list,
-        same list,
-      );
+      omega (arith, count-append, are.each list short, recounted.each list short', same list);
 }
 
 pub counted_part : (lists : ℕ) (kept rest : List Segment) (counts : List ℕ) → AreCountsOf lists (kept ++ rest) counts → AreListed lists rest →

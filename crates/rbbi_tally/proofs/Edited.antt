@@ -8,11 +8,7 @@ use Rattle.rbbi_model.proofs.Found.{found_lies, look_lies}
 use Rattle.rbbi_cache.specs.Edits.{IsSpliced}
 use Rattle.rbbi_cache.proofs.Texts.{alike_before, room_before, alike_behind, room_behind}
 use Rattle.rbbi_tally.specs.inner.Segments.{Segment, segment_at, AreSegments, moved}
-
-same_segment : (s t : Segment) → s.at ≡ t.at → s.look ≡ t.look → s.list ≡ t.list → s ≡ t
-same_segment s t at looks lists =
-    ap (λ p. record { at = p; look = s.look; list = s.list }) at ∙ ap (λ p. record { at = t.at; look = p; list = s.list }) looks
-    ∙ ap (λ p. record { at = t.at; look = t.look; list = p }) lists
+use Rattle.rbbi_tally.proofs.PieceLists.{same_segment}
 
 module _ (table : Table) (x y : List ℕ) (at removed inserted : ℕ) (edited : IsSpliced x y at removed inserted) where
   pub segments_kept : (from to : ℕ) (these : List Segment) → AreSegments table x from to these → AllByRecursion (λ s. s.look ≤ at) these →

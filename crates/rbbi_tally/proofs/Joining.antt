@@ -88,13 +88,8 @@ module _ (ps xs : List Piece) (m : ℕ) (q p : Piece) (at : AreNeighbours ps xs 
       let some = some_segments p.start p.items.items there.1.0.begin in
       let less = rising_places (segments_in q) (segments_in p ++ contents at.behind) rise' (some_segments q.start q.items.items there.0.begin)
       (omega (arith, length-append (segments_in p) (contents at.behind), some)) in
-      omega (
-        arith,
-        less,
-        place_of_items q.start q.items.items there.0.begin,
-        place_of_items p.start p.items.items there.1.0.begin,
-        first_of (segments_in p) (contents at.behind) some,
-      )
+      let first = first_of (segments_in p) (contents at.behind) some in
+      omega (arith, place_of_items q.start q.items.items there.0.begin, place_of_items p.start p.items.items there.1.0.begin)
     where
       first_of : (ss ts : List Segment) → 0 < length ss → place_of (ss ++ ts) 0 ≡ place_of ss 0
       first_of [] ts some = absurd (omega (arith, some))
@@ -139,12 +134,6 @@ module _ (ps xs : List Piece) (m : ℕ) (q p : Piece) (at : AreNeighbours ps xs 
       let there = subst ArePieces at.whole are in
       subst ArePieces (sym (put_back ps' q' is))
       (all_append IsPiece at.before (q' ∷ p ∷ at.behind) (all_left IsPiece at.before (q ∷ p ∷ at.behind) there) (is_piece, (neighbours_are are).1))
-
-  pub joined_pieces : (q' : Piece) → IsPiece q' → ArePieces ps → ArePieces (set xs m q')
-  joined_pieces q' is_piece are =
-      let there = subst ArePieces at.whole are in
-      subst ArePieces (sym (set_there q'))
-      (all_append IsPiece at.before (q' ∷ at.behind) (all_left IsPiece at.before (q ∷ p ∷ at.behind) there) (is_piece, (neighbours_are are).1.1))
 
 -- the piece with a number, which is removed, and the one before it
 pub neighbours : (ps xs : List Piece) (number : ℕ) (q p : Piece) → 0 < number → number < length ps → p ≡ get_or ps number p →

@@ -1,14 +1,14 @@
 -- The segments of a whole text: that there are some, and what the searches for them read.
-use Rattle.std.proofs.Common.{◌≡◌, ℕ, zero, suc, ◌+◌, ◌-◌, ◌<◌, ◌≤◌, List, [], ◌∷◌, ◌++◌, length, map, take, drop, ltb, get_or, min, sym, refl, ap, ◌∙◌}
-use Rattle.std.proofs.Common.{⊎_elim, arith}
+use Rattle.std.proofs.Common.{◌≡◌, ℕ, zero, suc, ◌+◌, ◌<◌, ◌≤◌, List, [], ◌∷◌, ◌++◌, length, map, take, drop, get_or, sym, refl, ap, ◌∙◌, ⊎_elim, arith}
 use Rattle.std.proofs.Math.Seq.{take-append_seam}
 use Rattle.std.specs.Prelude.{sum_by}
-use Rattle.std.proofs.lemmas.Bool.{cases_lt, cond-false, le-ltb}
+use Rattle.std.proofs.lemmas.Bool.{cases_lt}
+use Rattle.std.proofs.lemmas.Bool.Decides.{nat_tests}
 use Rattle.std.proofs.lemmas.List.Sums.{sum_by-cons, sum_by-append}
 use Rattle.rbbi_model.specs.Tables.{Table}
 use Rattle.rbbi_model.specs.Boundaries.{Boundary}
 use Rattle.rbbi_model.specs.Cover.{places}
-use Rattle.rbbi_model.specs.Searches.{look_end, found, table_boundaries}
+use Rattle.rbbi_model.specs.Searches.{found, table_boundaries}
 use Rattle.rbbi_model.specs.Costs.{characters_read}
 use Rattle.rbbi_model.proofs.Found.{found_lies}
 use Rattle.rbbi_tally.specs.Costs.{opening_cost}
@@ -22,8 +22,7 @@ use Rattle.rbbi_tally.proofs.Counted.{count_few, count-append}
 -- a sum over boundaries is one over their places
 sum_of_places : (f : ℕ → ℕ) (bs : List Boundary) → sum_by (λ b. f b.at) bs ≡ sum_by f (places bs)
 sum_of_places f [] = refl
-sum_of_places f (b ∷ bs) =
-    sum_by-cons (λ b. f b.at) b bs ∙ ap (λ n. f b.at + n) (sum_of_places f bs) ∙ sym (sum_by-cons f b.at (places bs))
+sum_of_places f (b ∷ bs) = grind (arith, sum_by-cons (λ b. f b.at) b bs, sum_of_places f bs, sum_by-cons f b.at (places bs))
 
 module _ (table : Table) (x : List ℕ) where
   pub segments_exist : (fuel from : ℕ) → from ≤ length x → length x ≤ from + fuel → (ss : List Segment) × AreSegments table x from (length x) ss
@@ -38,31 +37,21 @@ module _ (table : Table) (x : List ℕ) where
       (cases_lt from (length x))
 
   nothing_at_end : characters_read table x (length x) ≡ 0
-  nothing_at_end =
-      cond-false (ltb (length x) (length x)) (min (look_end table x (length x)) (length x) - length x) 0 (le-ltb (length x) (length x) (omega arith))
+  nothing_at_end = grind (arith, nat_tests)
 
   pub opening_is : (ss : List Segment) → AreSegments table x 0 (length x) ss → opening_cost table x ≡ reads_of table x ss
   opening_is ss are =
       let f : ℕ → ℕ = λ y. characters_read table x y in
-      omega (
-        arith,
-        sum_of_places f (table_boundaries table x),
-        ap (λ ns. sum_by f ns) (boundary_places table x ss are),
-        sum_by-append f (map (λ s. s.at) ss) (length x ∷ []),
-        sum_by-cons f (length x) [],
-        sum_of_reads f ss,
-        nothing_at_end,
-      )
+      let parts = sum_by-append f (map (λ s. s.at) ss) (length x ∷ []) in
+      let all = ap (λ ns. sum_by f ns) (boundary_places table x ss are) in
+      omega (arith, sum_of_places f (table_boundaries table x), sum_by-cons f (length x) [], sum_of_reads f ss, nothing_at_end)
 
   -- the searches from the first boundaries read at most as much
   pub reads_up_to : (place : ℕ) (ss : List Segment) → AreSegments table x 0 place ss → place ≤ length x → reads_of table x ss ≤ opening_cost table x
   reads_up_to place ss are within =
       let rest = segments_exist (length x) place within (omega arith) in
-      omega (
-        arith,
-        opening_is (ss ++ rest.0) (segments_joined table x 0 place (length x) ss rest.0 are rest.1),
-        sum_by-append (λ s. characters_read table x s.at) ss rest.0,
-      )
+      let all = opening_is (ss ++ rest.0) (segments_joined table x 0 place (length x) ss rest.0 are rest.1) in
+      omega (arith, sum_by-append (λ s. characters_read table x s.at) ss rest.0)
 
   -- no list has more segments than there are places
   pub counts_few : (lists place : ℕ) (ss : List Segment) (counts : List ℕ) → AreSegments table x 0 place ss → AreCountsOf lists ss counts →

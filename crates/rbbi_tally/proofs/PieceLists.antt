@@ -1,12 +1,11 @@
 -- Lists of pieces, and spots in them.
 use Rattle.std.proofs.Common.{◌≡◌, ℕ, zero, suc, ◌+◌, ◌-◌, ◌<◌, ◌≤◌, max, List, [], ◌∷◌, ◌++◌, length, map, take, drop, get_or, set, sym, refl, ap, ◌∙◌, subst}
-use Rattle.std.proofs.Common.{inl, inr, ⊎_elim, arith, append_assoc, append-nil}
+use Rattle.std.proofs.Common.{⊎_elim, arith, append_assoc, append-nil}
 use Rattle.std.specs.List.{AllByRecursion}
-use Rattle.std.proofs.lemmas.List.{take-append-drop, drop_more, take_more, drop-drop, take-append-le, drop-append-le, drop_at, take-map, drop-map, map_more, length-map}
-use Rattle.std.proofs.lemmas.List.{drop_all, map-append}
+use Rattle.std.proofs.lemmas.List.{take-append-drop, drop_more, take_more, drop-drop, take-append-le, drop-append-le, drop_at, take-map, drop-map, map_more}
+use Rattle.std.proofs.lemmas.List.{length-map, drop_all, map-append}
 use Rattle.std.proofs.lemmas.Bool.{cases_lt}
 use Rattle.std.proofs.lemmas.List.Concat.{flat_map-append}
-use Rattle.rbbi_model.specs.Places.{largest}
 use Rattle.rbbi_model.proofs.Lists.{all_append, all_drop, all_at}
 use Rattle.rbbi_tally.specs.declared.kept.Kept.{Kept}
 use Rattle.rbbi_tally.specs.declared.piece.Piece.{Piece}
@@ -15,10 +14,6 @@ use Rattle.rbbi_tally.specs.inner.Segments.{Segment, moved, place_of}
 use Rattle.rbbi_tally.specs.inner.Spots.{LooksPast}
 use Rattle.rbbi_tally.specs.inner.Pieces.{segment_of, segments_by, segments_in, contents, farthest, BeginAtStart, IsPiece, ArePieces, IsItemOf, IsSpot}
 use Rattle.rbbi_tally.specs.inner.Pieces.{segments_from, segments_before, IsUpTo}
-
-pub largest_least : (k : ℕ) (ns : List ℕ) → AllByRecursion (λ n. n ≤ k) ns → largest ns ≤ k
-largest_least k [] each = omega arith
-largest_least k (n ∷ ns) each = omega (arith, each.0, largest_least k ns each.1)
 
 -- each look end is at most the greatest
 pub looks_within : (k : ℕ) (ss : List Segment) → farthest ss ≤ k → AllByRecursion (λ s. s.look ≤ k) ss
@@ -32,9 +27,6 @@ farthest_least k (s ∷ ss) each = omega (arith, each.0, farthest_least k ss eac
 pub farthest-append : (ss ts : List Segment) → farthest (ss ++ ts) ≡ max (farthest ss) (farthest ts)
 farthest-append [] ts = omega arith
 farthest-append (s ∷ ss) ts = omega (arith, farthest-append ss ts)
-
-pub farthest-push : (ss : List Segment) (s : Segment) → farthest (ss ++ s ∷ []) ≡ max (farthest ss) s.look
-farthest-push ss s = omega (arith, farthest-append ss (s ∷ []))
 
 -- a list that is read one further
 pub take_map_more : {X Y : Type 0} (f : X → Y) (xs : List X) (i : ℕ) (d : X) → i < length xs →
@@ -123,7 +115,8 @@ nothing_at_end ps spot past = ap (λ (l : List Piece). drop spot.item (contents 
 -- the segment at a spot, and those behind it
 pub segment_at_spot : (ps : List Piece) (spot : Spot) (p : Piece) (d : Kept) → spot.piece < length ps → p ≡ get_or ps spot.piece p →
     spot.item < length p.items.items →
-    segments_from ps spot ≡ segment_of p.start (get_or p.items.items spot.item d) ∷ (drop (spot.item + 1) (segments_in p) ++ contents (drop (spot.piece + 1) ps))
+    segments_from ps spot ≡ segment_of p.start (get_or p.items.items spot.item d)
+    ∷ (drop (spot.item + 1) (segments_in p) ++ contents (drop (spot.piece + 1) ps))
 segment_at_spot ps spot p d short is within =
     ap (drop spot.item) (contents_at ps spot.piece p short is)
     ∙ drop-append-le spot.item (segments_in p) (contents (drop (spot.piece + 1) ps)) (omega (arith, length_in p))
@@ -214,10 +207,6 @@ segment_read ps spot p k short is within read =
     segment_at_spot ps spot p k short is within
     ∙ ap (λ j. segment_of p.start j ∷ (drop (spot.item + 1) (segments_in p) ++ contents (drop (spot.piece + 1) ps))) (sym read)
 
-pub begin_some : (items : List Kept) → BeginAtStart items → 0 < length items
-begin_some [] begin = absurd begin
-begin_some (k ∷ items) begin = omega arith
-
 -- a piece that is put in place of another
 pub pieces_set : (ps : List Piece) (c : ℕ) (p : Piece) → ArePieces ps → IsPiece p → ArePieces (set ps c p)
 pieces_set [] c p are is = tt
@@ -225,11 +214,7 @@ pieces_set (q ∷ ps) zero p are is = (is, are.1)
 pieces_set (q ∷ ps) (suc c) p are is = (are.0, pieces_set ps c p are.1 is)
 
 pub up_to_on : (a b c : Spot) → IsUpTo a b → IsUpTo b c → IsUpTo a c
-up_to_on a b c first second =
-    ⊎_elim
-    (λ less. ⊎_elim (λ less'. inl (omega arith)) (λ same. inl (omega (arith, same.0))) second)
-    (λ same. ⊎_elim (λ less'. inl (omega (arith, same.0))) (λ same'. inr (same.0 ∙ same'.0, omega (arith, same.1, same'.1))) second)
-    first
+up_to_on a b c first second = grind arith
 
 -- a piece that begins at its start does so with more behind
 pub begin_append : (start start' : ℕ) (items items' : List Kept) (added : List Segment) → start' ≡ start →

@@ -3,7 +3,8 @@ use Rattle.std.proofs.Common.{◌≡◌, ℕ, ◌+◌, ◌-◌, ◌<◌, ◌≤�
 use Rattle.std.proofs.Common.{length, map, get_or, sym, refl, ap, ◌∙◌, subst, inl, inr, ⊎_elim, arith, append_assoc, length-append}
 use Rattle.std.specs.Prelude.{unwrap_or}
 use Rattle.std.specs.List.{AllByRecursion}
-use Rattle.std.proofs.lemmas.Bool.{false_from_ne_true, lt-ltb, le-ltb, ltb-true, leb-true, le-leb, eq-eqb, eqb-true, and_parts, and_from, or_from, or_left, or_right}
+use Rattle.std.proofs.lemmas.Bool.{false_from_ne_true, leb-true, and_parts}
+use Rattle.std.proofs.lemmas.Bool.Decides.{nat_tests}
 use Rattle.std.proofs.lemmas.List.{map-append, length-map}
 use Rattle.rbbi_model.specs.Words.{most_characters}
 use Rattle.rbbi_model.specs.Lists.{Member, IsRising}
@@ -30,8 +31,8 @@ use Rattle.rbbi_tally.specs.inner.Tallied.{IsTallied}
 use Rattle.rbbi_tally.specs.declared.piece.Piece.{Piece}
 use Rattle.rbbi_tally.specs.declared.spot.Spot.{Spot}
 use Rattle.rbbi_tally.proofs.PieceLists.{spot_parts}
-use Rattle.rbbi_tally.proofs.SegmentLists.{IsInText, first_place, segments_joined, segments_parted, segments_in_text, segments_go_on, segments_between, segments_rise, segments_short}
-use Rattle.rbbi_tally.proofs.SegmentLists.{segments_listed}
+use Rattle.rbbi_tally.proofs.SegmentLists.{IsInText, first_place, segments_joined, segments_parted, segments_in_text, segments_go_on, segments_between}
+use Rattle.rbbi_tally.proofs.SegmentLists.{segments_rise, segments_short, segments_listed}
 use Rattle.rbbi_tally.proofs.Edited.{segments_kept, segments_moved}
 use Rattle.rbbi_tally.proofs.Boundaries.{boundary_places, first_passes, sum_of_part, sum_of_reads, places_all, place_is_member, member_is_place}
 use Rattle.rbbi_tally.proofs.Opening.{counts_few}
@@ -73,12 +74,7 @@ rising_front (m ∷ n ∷ ms) end rise = (rise.0, rising_front (n ∷ ms) end ri
 same_counts : (removed inserted list : ℕ) (ss : List Segment) → count_of (map (moved removed inserted) ss) list ≡ count_of ss list
 same_counts removed inserted list [] = refl
 same_counts removed inserted list (s ∷ ss) =
-    omega (
-      arith,
-      count-cons (moved removed inserted s) (map (moved removed inserted) ss) list,
-      count-cons s ss list,
-      same_counts removed inserted list ss,
-    )
+    omega (arith, count-cons (moved removed inserted s) (map (moved removed inserted) ss) list, count-cons s ss list, same_counts removed inserted list ss)
 
 -- each look end is that of the search from there
 looks_are : (table : Table) (x : List ℕ) (from to : ℕ) (ss : List Segment) → AreSegments table x from to ss →
@@ -126,7 +122,8 @@ module _ {table : Table} {x y : List ℕ} {edit : Edit} {before old : List Segme
   old_counted counts counted =
       counted_part (length table.lists) before old counts counted (segments_listed table x parts.valid start (length x) old parted.1)
 
-  pub old_few : (counts : List ℕ) → AreCountsOf (length table.lists) (before ++ old) counts → (list : ℕ) → list < length counts → get_or counts list 0 ≤ length x
+  pub old_few : (counts : List ℕ) → AreCountsOf (length table.lists) (before ++ old) counts →
+      (list : ℕ) → list < length counts → get_or counts list 0 ≤ length x
   old_few counts counted = counts_few table x (length table.lists) (length x) (before ++ old) counts parts.whole counted
 
   reaching_is : first_reaching table x edit.at ≡ start
@@ -140,11 +137,7 @@ module _ {table : Table} {x y : List ℕ} {edit : Edit} {before old : List Segme
       let fails : AllByRecursion (λ p. test p ≡ false) (map (λ s. s.at) before) =
       places_all (λ p. test p ≡ false) before
       (all_through (λ (s : Segment). (s.look ≤ edit.at) × ((s.look ≡ look_end table x s.at) × IsInText x s)) (λ (s : Segment). test s.at ≡ false)
-      (λ s each.
-      or_from (eqb s.at n) (ltb edit.at (look_end table x s.at))
-      (false_from_ne_true (eqb s.at n) (λ same. absurd (omega (arith, eqb-true s.at n same, each.1.1.at))))
-      (le-ltb edit.at (look_end table x s.at) (omega (arith, each.0, each.1.0))))
-      before short_looks) in
+      (λ s each. grind (arith, nat_tests, each.0, each.1.0, each.1.1.at)) before short_looks) in
       ap (λ o. unwrap_or o n)
       (first_passes test (table_boundaries table x) (map (λ s. s.at) before) (place_of old n) (further old n)
       (boundary_places table x (before ++ old) parts.whole ∙ places_parted before old n ∙ ap (λ l. map (λ s. s.at) before ++ l) (first_further old n))
@@ -153,10 +146,8 @@ module _ {table : Table} {x y : List ℕ} {edit : Edit} {before old : List Segme
     where
       test_passes : (ss : List Segment) → AllByRecursion (λ s. s.look ≡ look_end table x s.at) ss → LooksPast edit.at ss →
           (eqb (place_of ss (length x)) (length x) || ltb edit.at (look_end table x (place_of ss (length x)))) ≡ true
-      test_passes [] looks far = or_left (eqb (length x) (length x)) (ltb edit.at (look_end table x (length x))) (eq-eqb (length x) (length x) refl)
-      test_passes (s ∷ ss) looks far =
-          or_right (eqb s.at (length x)) (ltb edit.at (look_end table x s.at))
-          (lt-ltb edit.at (look_end table x s.at) (omega (arith, far, looks.0)))
+      test_passes [] looks far = grind (arith, nat_tests)
+      test_passes (s ∷ ss) looks far = grind (arith, nat_tests, far, looks.0)
 
   module _ {found' : List Segment} {place : ℕ} {rest : List Segment} {counts counts' : List ℕ}
       (met : AreMet table y edit start old (length x) found' place rest counts counts') where
@@ -222,12 +213,8 @@ module _ {table : Table} {x y : List ℕ} {edit : Edit} {before old : List Segme
 
     pub room_is : length found' + length rest + start ≤ length y
     room_is =
-        omega (
-          arith,
-          segments_go_on table y start (length y) (found' ++ map (moved edit.removed edit.inserted) rest) behind_are,
-          length-append found' (map (moved edit.removed edit.inserted) rest),
-          length-map rest (moved edit.removed edit.inserted),
-        )
+        let all = segments_go_on table y start (length y) (found' ++ map (moved edit.removed edit.inserted) rest) behind_are in
+        omega (arith, length-append found' (map (moved edit.removed edit.inserted) rest), length-map rest (moved edit.removed edit.inserted))
 
     pub all_counted : AreCountsOf (length table.lists) (before ++ old) counts →
         AreCountsOf (length table.lists) (before ++ (found' ++ map (moved edit.removed edit.inserted) rest)) counts'
@@ -255,16 +242,13 @@ module _ {table : Table} {x y : List ℕ} {edit : Edit} {before old : List Segme
         let moves : List Segment = map (moved edit.removed edit.inserted) rest in
         let bs : List Boundary = table_boundaries table x in
         let test : ℕ → Bool = λ z. leb (edit.at + edit.inserted) z && (leb start z && is_place_of bs (z - edit.inserted + edit.removed)) in
-        let old_places : places bs ≡ map (λ s. s.at) before ++ places_to old n = boundary_places table x (before ++ old) parts.whole ∙ places_parted before old n in
+        let old_places : places bs ≡ map (λ s. s.at) before ++ places_to old n =
+        boundary_places table x (before ++ old) parts.whole ∙ places_parted before old n in
         let fails : AllByRecursion (λ z. test z ≡ false) (map (λ s. s.at) before ++ map (λ s. s.at) found') =
         all_append (λ z. test z ≡ false) (map (λ s. s.at) before) (map (λ s. s.at) found')
         (places_all (λ z. test z ≡ false) before
         (all_through (λ (s : Segment). s.at < start) (λ (s : Segment). test s.at ≡ false)
-        (λ s early. false_from_ne_true (test s.at)
-        (λ holds.
-        let both = and_parts (leb (edit.at + edit.inserted) s.at) (leb start s.at && is_place_of bs (s.at - edit.inserted + edit.removed)) holds in
-        absurd (omega (arith, early, leb-true start s.at (and_parts (leb start s.at) (is_place_of bs (s.at - edit.inserted + edit.removed)) both.1).0))))
-        before before_start))
+        (λ s early. grind (arith, nat_tests, early)) before before_start))
         (places_all (λ z. test z ≡ false) found'
         (all_through (λ (s : Segment). ¬ IsMet edit old n s.at) (λ (s : Segment). test s.at ≡ false)
         (λ s none. false_from_ne_true (test s.at)
@@ -287,9 +271,7 @@ module _ {table : Table} {x y : List ℕ} {edit : Edit} {before old : List Segme
         (subst (λ l. Member (places_to l n) (place_of rest n)) (sym met.are_found.parted)
         (subst (λ l. Member l (place_of rest n)) (sym (places_parted met.are_found.gone rest n))
         (member_behind (map (λ s. s.at) met.are_found.gone) (places_to rest n) (place_of rest n) (first_member rest n)))))) in
-        let passes : test place ≡ true =
-        and_from (leb (edit.at + edit.inserted) place) (leb start place && is_place_of bs zold) (le-leb (edit.at + edit.inserted) place met.behind)
-        (and_from (leb start place) (is_place_of bs zold) (le-leb start place place_behind) (member_is_place bs zold is_old)) in
+        let passes : test place ≡ true = grind (arith, nat_tests, met.behind, place_behind, member_is_place bs zold is_old) in
         let first : place_of moves (length y) ≡ place = sym (first_place table y place (length y) moves rest_moved) in
         ap (λ o. unwrap_or o (length y))
         (first_passes test (table_boundaries table y) (map (λ s. s.at) before ++ map (λ s. s.at) found') place (further moves (length y))
@@ -301,17 +283,15 @@ module _ {table : Table} {x y : List ℕ} {edit : Edit} {before old : List Segme
         let moves : List Segment = map (moved edit.removed edit.inserted) rest in
         let f : ℕ → ℕ = λ p. characters_read table y p in
         let test : ℕ → Bool = λ p. leb start p && ltb p place in
-        let late : (p : ℕ) → place ≤ p → test p ≡ false =
-        λ p past. false_from_ne_true (test p) (λ holds. absurd (omega (arith, past, ltb-true p place (and_parts (leb start p) (ltb p place) holds).1))) in
+        let late : (p : ℕ) → place ≤ p → test p ≡ false = λ p past. grind (arith, nat_tests, past) in
         sum_of_part f test (table_boundaries table y) (map (λ s. s.at) before) (map (λ s. s.at) found') (places_to moves (length y))
         (new_places ∙ append_assoc (map (λ s. s.at) before) (map (λ s. s.at) found') (places_to moves (length y)))
         (places_all (λ p. test p ≡ false) before
         (all_through (λ (s : Segment). s.at < start) (λ (s : Segment). test s.at ≡ false)
-        (λ s early. false_from_ne_true (test s.at)
-        (λ holds. absurd (omega (arith, early, leb-true start s.at (and_parts (leb start s.at) (ltb s.at place) holds).0)))) before before_start))
+        (λ s early. grind (arith, nat_tests, early)) before before_start))
         (places_all (λ p. test p ≡ true) found'
         (all_through (λ (s : Segment). (start ≤ s.at) × (s.at < place)) (λ (s : Segment). test s.at ≡ true)
-        (λ s each. and_from (leb start s.at) (ltb s.at place) (le-leb start s.at each.0) (lt-ltb s.at place each.1)) found' found_between))
+        (λ s each. grind (arith, nat_tests, each.0, each.1)) found' found_between))
         (all_append (λ p. test p ≡ false) (map (λ s. s.at) moves) (length y ∷ [])
         (places_all (λ p. test p ≡ false) moves
         (all_through (λ (s : Segment). (place ≤ s.at) × (s.at < length y)) (λ (s : Segment). test s.at ≡ false) (λ s each. late s.at each.0) moves
@@ -345,7 +325,8 @@ parts_are {table} {x} {y} {pieces} {seen} {again} {kept} {start} {end} edit char
     }
 
 pub met_is_of : {table : Table} {y : List ℕ} {edit : Edit} {seen kept : List Piece} {start end n : ℕ} {found : List Segment} {place : ℕ}
-    {counts counts' : List ℕ} (first spot : Spot) → AreMet table y edit start (segments_from seen first) end found place (segments_from seen spot) counts counts' → seen ≡ kept →
+    {counts counts' : List ℕ} (first spot : Spot) →
+    AreMet table y edit start (segments_from seen first) end found place (segments_from seen spot) counts counts' → seen ≡ kept →
     end ≡ n → AreMet table y edit start (segments_from kept first) n found place (segments_from kept spot) counts counts'
 met_is_of {table} {y} {edit} {seen} {kept} {start} {end} {n} {found} {place} {counts} {counts'} first spot met seen_is end_is =
     subst (λ l. AreMet table y edit start (segments_from l first) n found place (segments_from l spot) counts counts') seen_is

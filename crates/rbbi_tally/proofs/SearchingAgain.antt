@@ -1,7 +1,9 @@
 -- One step of searching again: what is skipped, what is found, and where the old and the new segments can't meet yet.
-use Rattle.std.proofs.Common.{◌≡◌, ◌≢◌, MatchBool, eqb, ℕ, ◌+◌, ◌-◌, ◌<◌, ◌≤◌, ◌++◌, ◌∷◌, [], Bool, true, false, List, length, get_or, sym, ap, ◌∙◌, subst, ⊎_elim, arith, append_assoc}
+use Rattle.std.proofs.Common.{◌≡◌, ◌≢◌, MatchBool, eqb, ℕ, ◌+◌, ◌-◌, ◌<◌, ◌≤◌, ◌++◌, ◌∷◌, [], Bool, true, false, List, length, get_or, sym, ap, ◌∙◌, subst}
+use Rattle.std.proofs.Common.{⊎_elim, arith, append_assoc}
 use Rattle.std.specs.List.{AllByRecursion}
-use Rattle.std.proofs.lemmas.Bool.{MatchBool-at_true, MatchBool-at_false, both_ways, cases_lt, cases_Bool, eqb-true, eqb-false}
+use Rattle.std.proofs.lemmas.Bool.{MatchBool-at_true, MatchBool-at_false, both_ways, cases_lt}
+use Rattle.std.proofs.lemmas.Bool.Decides.{nat_tests}
 use Rattle.std.proofs.lemmas.List.{append-nil}
 use Rattle.rbbi_model.specs.Words.{most_characters}
 use Rattle.rbbi_model.specs.Lists.{Member, IsRising}
@@ -35,18 +37,11 @@ not_there : (gone rest : List Segment) (end p : ℕ) → IsRising (places_to (go
     Member (places_to (gone ++ rest) end) p → ⊥
 not_there [] rest end p rise passed before here = omega (arith, from_first rest end p rise here)
 not_there (s ∷ gone) rest end p rise passed before here =
-    ⊎_elim
-    (λ is. omega (arith, passed.0))
-    (λ later. not_there gone rest end p (rising_tail s.at (places_to (gone ++ rest) end) rise) passed.1 before later)
-    here
+    grind (arith, not_there gone rest end p (rising_tail s.at (places_to (gone ++ rest) end) rise) passed.1 before, passed.0)
 
 -- whether two places are the same, where the one is told
 pub told_at : (a b p : ℕ) → a ≡ b → MatchBool (eqb a p) (b ≡ p) (b ≢ p)
-told_at a b p same =
-    ⊎_elim
-    (λ is. subst (λ k. MatchBool k (b ≡ p) (b ≢ p)) (sym is) (sym same ∙ eqb-true a p is))
-    (λ differ. subst (λ k. MatchBool k (b ≡ p) (b ≢ p)) (sym differ) (λ is. eqb-false a p differ (same ∙ is)))
-    (cases_Bool (eqb a p))
+told_at a b p same = grind (arith, nat_tests)
 
 module _ (table : Table) (y : List ℕ) (edit : Edit) (start : ℕ) (old : List Segment) (end : ℕ) where
   -- the next search may begin
@@ -95,7 +90,8 @@ module _ (table : Table) (y : List ℕ) (edit : Edit) (start : ℕ) (old : List 
       let rise' = subst (λ l. IsRising (places_to l end)) now.parted rise in
       let reached = skipped.reached end (omega arith) in
       let past : p < place_of rest' end = omega (arith, reached, apart) in
-      let passed = all_through (λ (s : Segment). s.at + edit.inserted < place + edit.removed) (λ (s : Segment). s.at < p) (λ s less. omega (arith, less)) now.gone
+      let passed = all_through (λ (s : Segment). s.at + edit.inserted < place + edit.removed) (λ (s : Segment). s.at < p)
+      (λ s less. omega (arith, less)) now.gone
       now.passed in
       record {
         are_found = now;
@@ -144,13 +140,7 @@ module _ (table : Table) (y : List ℕ) (edit : Edit) (start : ℕ) (old : List 
   ready_few found place rest before after ready small few list short =
       let counted = ready.are_found.counted in
       let short' : list < length before = omega (arith, counted.all) in
-      omega (
-        arith,
-        counted.each list short',
-        few list short',
-        count_few found list,
-        ready_room found place rest before after ready,
-      )
+      omega (arith, counted.each list short', few list short', count_few found list, ready_room found place rest before after ready)
 
   pub next_found : (found' : List Segment) (place : ℕ) (rest : List Segment) (before mid after : List ℕ) (found'' : List Segment) →
       IsReady found' place rest before mid → found'' ≡ found' ++ segment_at table y place ∷ [] → IsRecounted [] (segment_at table y place ∷ []) mid after →

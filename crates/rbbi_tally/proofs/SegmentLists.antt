@@ -54,10 +54,6 @@ module _ (table : Table) (x : List ℕ) where
   segments_go_on from to (s ∷ these) are =
       omega (arith, (found_lies table x from are.0).0, segments_go_on (found table x from).at to these are.2)
 
-  pub segments_up_to : (from to : ℕ) (these : List Segment) → AreSegments table x from to these → from ≤ length x → to ≤ length x
-  segments_up_to from to [] are within = omega arith
-  segments_up_to from to (s ∷ these) are within = segments_up_to (found table x from).at to these are.2 (found_lies table x from are.0).1
-
   pub segments_between : (from to : ℕ) (these : List Segment) → AreSegments table x from to these →
       AllByRecursion (λ s. (from ≤ s.at) × (s.at < to)) these
   segments_between from to [] are = tt
@@ -85,7 +81,8 @@ module _ (table : Table) (x : List ℕ) where
       (omega (arith, (found_lies table x from are.0).0), segments_rise (found table x from).at to (t ∷ these) are.2)
 
   -- where no search looks past a place, the segments don't lead past it
-  pub segments_short : IsValidTable table → (at from to : ℕ) (these : List Segment) → AreSegments table x from to these → from ≤ at → AllByRecursion (λ s. s.look ≤ at) these →
+  pub segments_short : IsValidTable table → (at from to : ℕ) (these : List Segment) → AreSegments table x from to these → from ≤ at →
+      AllByRecursion (λ s. s.look ≤ at) these →
       to ≤ at
   segments_short valid at from to [] are low short = omega arith
   segments_short valid at from to (s ∷ these) are low short =

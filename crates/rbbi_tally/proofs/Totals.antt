@@ -2,9 +2,11 @@
 use Rattle.std.proofs.Common.{◌≡◌, ℕ, zero, suc, ◌+◌, ◌<◌, ◌≤◌, Bool, true, cond, eqb, List, [], ◌∷◌, length, map, take, drop, get_or, sum, sym, refl, ap}
 use Rattle.std.proofs.Common.{◌∙◌, ⊎_elim, arith, add-one}
 use Rattle.std.specs.Prelude.{count_by}
-use Rattle.std.proofs.lemmas.Bool.{cases_Bool, cases_eq, cases_lt, cond-true, cond-false, eqb-true, eq-eqb}
-use Rattle.std.proofs.lemmas.List.{take_more, take_all, length-map}
-use Rattle.std.proofs.lemmas.List.Sums.{sum_by-cons, sum_by-append}
+use Rattle.std.proofs.lemmas.Bool.{cases_eq}
+use Rattle.std.proofs.lemmas.Bool.Decides.{nat_tests}
+use Rattle.std.proofs.lemmas.Grind.{common_steps}
+use Rattle.std.proofs.lemmas.List.{take_all, length-map}
+use Rattle.std.proofs.lemmas.List.Sums.{sum_by-cons}
 use Rattle.rbbi_model.specs.Places.{largest}
 use Rattle.rbbi_model.specs.Tables.{Table, statuses_of}
 use Rattle.rbbi_model.specs.ValidTables.{IsValidTable}
@@ -27,34 +29,21 @@ weighed test of (suc lists) = weighed test of lists + cond (test lists) (of list
 below_weighed : (table : Table) (counts : List ℕ) (value lists : ℕ) →
     count_below table counts lists value ≡ weighed (λ list. eqb (largest (statuses_of table list)) value) (λ list. get_or counts list 0) lists
 below_weighed table counts value zero = refl
-below_weighed table counts value (suc lists) = ap (λ n. n + cond (eqb (largest (statuses_of table lists)) value) (get_or counts lists 0) 0) (below_weighed table counts value lists)
+below_weighed table counts value (suc lists) =
+    ap (λ n. n + cond (eqb (largest (statuses_of table lists)) value) (get_or counts lists 0) 0) (below_weighed table counts value lists)
 
 module _ (test : ℕ → Bool) where
   weighed_same : (f g : ℕ → ℕ) (lists : ℕ) → ((list : ℕ) → list < lists → f list ≡ g list) → weighed test f lists ≡ weighed test g lists
   weighed_same f g zero same = refl
   weighed_same f g (suc lists) same =
-      omega (
-        arith,
-        weighed_same f g lists (λ list short. same list (omega (arith, short))),
-        ap (λ n. cond (test lists) n 0) (same lists (omega arith)),
-      )
+      grind (arith, nat_tests, weighed_same f g lists (λ list short. same list (omega (arith, short))), same lists (omega arith))
 
   weighed_none : (lists : ℕ) → weighed test (λ list. 0) lists ≡ 0
   weighed_none zero = refl
-  weighed_none (suc lists) =
-      ⊎_elim
-      (λ holds. omega (arith, weighed_none lists, cond-true {A = ℕ} (test lists) 0 0 holds))
-      (λ fails. omega (arith, weighed_none lists, cond-false {A = ℕ} (test lists) 0 0 fails))
-      (cases_Bool (test lists))
+  weighed_none (suc lists) = grind (arith, nat_tests, weighed_none lists)
 
   one_past : (k : ℕ) (g : ℕ → ℕ) (lists : ℕ) → lists ≤ k → weighed test (λ list. cond (eqb k list) 1 0 + g list) lists ≡ weighed test g lists
-  one_past k g lists past =
-      weighed_same (λ list. cond (eqb k list) 1 0 + g list) g lists
-      (λ list short.
-      ⊎_elim
-      (λ here. absurd (omega (arith, eqb-true k list here, short, past)))
-      (λ other. omega (arith, cond-false {A = ℕ} (eqb k list) 1 0 other))
-      (cases_Bool (eqb k list)))
+  one_past k g lists past = weighed_same (λ list. cond (eqb k list) 1 0 + g list) g lists (λ list short. grind (arith, nat_tests))
 
   -- one more of a list
   one_more : (k : ℕ) (g : ℕ → ℕ) (lists : ℕ) → k < lists →
@@ -62,57 +51,18 @@ module _ (test : ℕ → Bool) where
   one_more k g zero short = absurd (omega (arith, short))
   one_more k g (suc lists) short =
       ⊎_elim
-      (λ same.
-      let last = cond-true {A = ℕ} (eqb k lists) 1 0 (eq-eqb k lists same) in
-      let there = ap {B = ℕ} (λ i. cond (test i) 1 0) same in
-      ⊎_elim
-      (λ holds.
-      omega (
-        arith,
-        one_past k g lists (omega (arith, same)),
-        cond-true {A = ℕ} (test lists) (cond (eqb k lists) 1 0 + g lists) 0 holds,
-        cond-true {A = ℕ} (test lists) (g lists) 0 holds,
-        cond-true {A = ℕ} (test lists) 1 0 holds,
-        last,
-        there,
-      ))
-      (λ fails.
-      omega (
-        arith,
-        one_past k g lists (omega (arith, same)),
-        cond-false {A = ℕ} (test lists) (cond (eqb k lists) 1 0 + g lists) 0 fails,
-        cond-false {A = ℕ} (test lists) (g lists) 0 fails,
-        cond-false {A = ℕ} (test lists) 1 0 fails,
-        there,
-      ))
-      (cases_Bool (test lists)))
-      (λ before.
-      ⊎_elim
-      (λ here. absurd (before (eqb-true k lists here)))
-      (λ other.
-      omega (
-        arith,
-        one_more k g lists (less k lists short before),
-        ap (λ n. cond (test lists) n 0) (let e : cond (eqb k lists) 1 0 + g lists ≡ g lists = omega (arith, cond-false {A = ℕ} (eqb k lists) 1 0 other) in e),
-      ))
-      (cases_Bool (eqb k lists)))
+      (λ same. grind (arith, nat_tests, one_past k g lists (omega (arith, same)), ap {B = ℕ} (λ i. cond (test i) 1 0) same))
+      (λ before. grind (arith, nat_tests, one_more k g lists (grind arith)))
       (cases_eq k lists)
-    where
-      less : (m n : ℕ) → m < suc n → (m ≡ n → ⊥) → m < n
-      less m n short' other = ⊎_elim (λ l. l) (λ ge. absurd (other (omega (arith, short')))) (cases_lt m n)
 
   -- the counts of segments by list, and the segments
   weighed_segments : (lists : ℕ) (ss : List Segment) → AreListed lists ss → weighed test (count_of ss) lists ≡ count_by (λ s. test s.list) ss
   weighed_segments lists [] listed = weighed_none lists
   weighed_segments lists (s ∷ ss) listed =
-      omega (
-        arith,
-        weighed_same (count_of (s ∷ ss)) (λ list. cond (eqb s.list list) 1 0 + count_of ss list) lists
-            (λ list short. sum_by-cons (λ t. cond (eqb t.list list) 1 0) s ss),
-        one_more s.list (count_of ss) lists listed.0,
-        weighed_segments lists ss listed.1,
-        sum_by-cons (λ t. cond (test t.list) 1 0) s ss,
-      )
+      let same = weighed_same (count_of (s ∷ ss)) (λ list. cond (eqb s.list list) 1 0 + count_of ss list) lists
+      (λ list short. sum_by-cons (λ t. cond (eqb t.list list) 1 0) s ss) in
+      let more = one_more s.list (count_of ss) lists listed.0 in
+      omega (arith, weighed_segments lists ss listed.1, sum_by-cons (λ t. cond (test t.list) 1 0) s ss)
 
 count_all : (ss : List Segment) → count_by (λ s. true) ss ≡ length ss
 count_all [] = refl
@@ -122,13 +72,8 @@ sum_weighed : (counts : List ℕ) (lists : ℕ) → lists ≤ length counts → 
 sum_weighed counts zero within = refl
 sum_weighed counts (suc lists) within =
     let short : lists < length counts = omega (arith, within) in
-    omega (
-      arith,
-      ap (λ n. sum (take n counts)) (sym (add-one lists)),
-      ap sum (take_more counts lists 0 short),
-      sum_by-append (λ (n : ℕ). n) (take lists counts) (get_or counts lists 0 ∷ []),
-      sum_weighed counts lists (omega (arith, within)),
-    )
+    let e = ap (λ n. sum (take n counts)) (sym (add-one lists)) in
+    grind (arith, common_steps, sum_weighed counts lists (omega (arith, within)), e)
 
 module _ (table : Table) (x : List ℕ) where
   -- the boundaries at the ends of segments have the status lists of the segments
@@ -139,14 +84,11 @@ module _ (table : Table) (x : List ℕ) where
   count_ends value from to (s ∷ ss) are =
       let at : s.at ≡ from = ap (λ t. t.at) are.1 in
       let list : s.list ≡ (found table x from).list = ap (λ t. t.list) are.1 in
-      omega (
-        arith,
-        sum_by-cons (λ (b : Boundary). cond (eqb (largest b.statuses) value) 1 0) (next_boundary table x s.at) (map (λ t. next_boundary table x t.at) ss),
-        sum_by-cons (λ (t : Segment). cond (eqb (largest (statuses_of table t.list)) value) 1 0) s ss,
-        count_ends value (found table x from).at to ss are.2,
-        ap {B = ℕ} (λ p. cond (eqb (largest (statuses_of table (found table x p).list)) value) 1 0) at,
-        ap {B = ℕ} (λ i. cond (eqb (largest (statuses_of table i)) value) 1 0) list,
-      )
+      let test : ℕ → ℕ = λ i. cond (eqb (largest (statuses_of table i)) value) 1 0 in
+      let here = ap {B = ℕ} (λ p. test (found table x p).list) at in
+      let bs = sum_by-cons (λ (b : Boundary). cond (eqb (largest b.statuses) value) 1 0) (next_boundary table x s.at)
+      (map (λ t. next_boundary table x t.at) ss) in
+      omega (arith, here, ap {B = ℕ} test list, sum_by-cons (λ (t : Segment). test t.list) s ss, count_ends value (found table x from).at to ss are.2)
 
   module _ (valid : IsValidTable table) (ss : List Segment) (are : AreSegments table x 0 (length x) ss) (counts : List ℕ)
       (counted : AreCountsOf (length table.lists) ss counts) where
@@ -164,22 +106,14 @@ module _ (table : Table) (x : List ℕ) where
     value_small value =
         let lists : ℕ = length table.lists in
         let test : ℕ → Bool = λ list. eqb (largest (statuses_of table list)) value in
-        omega (
-          arith,
-          below_weighed table counts value lists,
-          weighed_same test (λ list. get_or counts list 0) (count_of ss) lists counted.each,
-          weighed_segments test lists ss (segments_listed table x valid 0 (length x) ss are),
-          count_most test ss,
-          segments_go_on table x 0 (length x) ss are,
-        )
+        let below = below_weighed table counts value lists in
+        let same = weighed_same test (λ list. get_or counts list 0) (count_of ss) lists counted.each in
+        let all = weighed_segments test lists ss (segments_listed table x valid 0 (length x) ss are) in
+        omega (arith, count_most test ss, segments_go_on table x 0 (length x) ss are)
       where
         count_most : (test : ℕ → Bool) (ts : List Segment) → count_by (λ s. test s.list) ts ≤ length ts
         count_most test [] = omega arith
-        count_most test (t ∷ ts) =
-            ⊎_elim
-            (λ holds. omega (arith, sum_by-cons (λ s. cond (test s.list) 1 0) t ts, cond-true {A = ℕ} (test t.list) 1 0 holds, count_most test ts))
-            (λ fails. omega (arith, sum_by-cons (λ s. cond (test s.list) 1 0) t ts, cond-false {A = ℕ} (test t.list) 1 0 fails, count_most test ts))
-            (cases_Bool (test t.list))
+        count_most test (t ∷ ts) = grind (arith, nat_tests, sum_by-cons (λ s. cond (test s.list) 1 0) t ts, count_most test ts)
 
     sum_is : sum counts ≡ length ss
     sum_is =
@@ -192,12 +126,7 @@ module _ (table : Table) (x : List ℕ) where
 
     pub counted_all : sum counts ≡ segment_count (table_boundaries table x)
     counted_all =
-        omega (
-          arith,
-          sum_is,
-          ap (λ (bs : List Boundary). length bs) (boundaries_are table x ss are),
-          length-map ss (λ s. next_boundary table x s.at),
-        )
+        omega (arith, sum_is, ap (λ (bs : List Boundary). length bs) (boundaries_are table x ss are), length-map ss (λ s. next_boundary table x s.at))
 
     pub sum_small : sum counts ≤ length x
     sum_small = omega (arith, sum_is, segments_go_on table x 0 (length x) ss are)

@@ -3,7 +3,8 @@ use Rattle.std.proofs.Common.{◌≡◌, ℕ, zero, suc, ◌+◌, ◌-◌, ◌<�
 use Rattle.std.proofs.Common.{refl, ap, ◌∙◌, subst, ⊎_elim, arith, add-one}
 use Rattle.std.specs.Prelude.{Contains, ◌↔◌}
 use Rattle.std.specs.List.{AllByRecursion}
-use Rattle.std.proofs.lemmas.Bool.{cases_Bool, cond-true, cond-false, eqb-true, eq-eqb}
+use Rattle.std.proofs.lemmas.Bool.{cases_lt, cases_Bool, cond-true, cond-false, eqb-true}
+use Rattle.std.proofs.lemmas.Bool.Decides.{nat_tests}
 use Rattle.std.proofs.lemmas.List.{map-set, set-get_or, get_or-map}
 use Rattle.std.proofs.lemmas.List.Sums.{sum_by-cons, sum_by-set, sum_by-insert}
 use Rattle.rbbi_model.specs.Places.{largest}
@@ -14,18 +15,15 @@ use Rattle.rbbi_model.proofs.Rising.{rising_tail}
 use Rattle.rbbi_tally.specs.declared.counts.ValueCount.{ValueCount}
 use Rattle.rbbi_tally.specs.inner.Values.{count_below, sum_at, AreValues}
 
-weight : ℕ → ValueCount → ℕ
-weight v p = cond (eqb p.value v) p.count 0
-
 -- more lists have no smaller counts
-pub count_below_grows : (table : Table) (counts : List ℕ) (value few more : ℕ) → count_below table counts few value ≤ count_below table counts (few + more) value
-count_below_grows table counts value few zero = omega (arith, ap (λ n. count_below table counts n value) (let e : few + 0 ≡ few = omega arith in e))
-count_below_grows table counts value few (suc more) =
-    omega (
-      arith,
-      count_below_grows table counts value few more,
-      ap (λ n. count_below table counts n value) (let e : few + suc more ≡ suc (few + more) = omega arith in e),
-    )
+pub count_below_grows : (table : Table) (counts : List ℕ) (value few lists : ℕ) → few ≤ lists →
+    count_below table counts few value ≤ count_below table counts lists value
+count_below_grows table counts value few zero within = omega (arith, ap (λ n. count_below table counts n value) (let e : few ≡ 0 = omega arith in e))
+count_below_grows table counts value few (suc lists) within =
+    ⊎_elim
+    (λ less. omega (arith, count_below_grows table counts value few lists (omega (arith, less))))
+    (λ past. omega (arith, ap (λ n. count_below table counts n value) (let e : few ≡ suc lists = omega arith in e)))
+    (cases_lt few (suc lists))
 
 pub count_below_one : (table : Table) (counts : List ℕ) (list value : ℕ) → count_below table counts (list + 1) value
     ≡ count_below table counts list value + cond (eqb (largest (statuses_of table list)) value) (get_or counts list 0) 0
@@ -39,35 +37,11 @@ more_at of pairs k value count d p short there same more are = record {
       subst IsRising
       (sym (map-set (λ (q : ValueCount). q.value) pairs k p ∙ ap (set (map (λ (q : ValueCount). q.value) pairs) k) (same ∙ sym there
       ∙ sym (get_or-map (λ (q : ValueCount). q.value) pairs k d 0 short)) ∙ set-get_or (map (λ (q : ValueCount). q.value) pairs) k 0)) are.rising;
-  positive = all_set (λ (q : ValueCount). 0 < q.count) pairs k p are.positive (omega (arith, more, all_at (λ (q : ValueCount). 0 < q.count) pairs k d short are.positive));
+  positive = all_set (λ (q : ValueCount). 0 < q.count) pairs k p are.positive
+      (omega (arith, more, all_at (λ (q : ValueCount). 0 < q.count) pairs k d short are.positive));
   at = λ v.
-      let old : ValueCount = get_or pairs k d in
       let sums = sum_by-set (λ (q : ValueCount). cond (eqb q.value v) q.count 0) pairs k p d short in
-      ⊎_elim
-      (λ here.
-      omega (
-        arith,
-        sums,
-        are.at v,
-        cond-true {A = ℕ} (eqb value v) count 0 here,
-        ap (λ n. cond (eqb n v) p.count 0) same,
-        cond-true {A = ℕ} (eqb value v) p.count 0 here,
-        ap (λ n. cond (eqb n v) old.count 0) there,
-        cond-true {A = ℕ} (eqb value v) old.count 0 here,
-        more,
-      ))
-      (λ other.
-      omega (
-        arith,
-        sums,
-        are.at v,
-        cond-false {A = ℕ} (eqb value v) count 0 other,
-        ap (λ n. cond (eqb n v) p.count 0) same,
-        cond-false {A = ℕ} (eqb value v) p.count 0 other,
-        ap (λ n. cond (eqb n v) old.count 0) there,
-        cond-false {A = ℕ} (eqb value v) old.count 0 other,
-      ))
-      (cases_Bool (eqb value v));
+      grind (arith, nat_tests, sums, are.at v, same, there, more);
 }
   where
     all_set : (P : ValueCount → Type 0) (xs : List ValueCount) (i : ℕ) (y : ValueCount) → AllByRecursion P xs → P y → AllByRecursion P (set xs i y)
@@ -80,11 +54,6 @@ rising_all : (value : ℕ) (rest : List ValueCount) → IsRising (map (λ q. q.v
 rising_all value [] rise all = tt
 rising_all value (q ∷ rest) rise all = (all.0, rise)
 
-rising_drop : (k : ℕ) (pairs : List ValueCount) → IsRising (map (λ q. q.value) pairs) → IsRising (map (λ q. q.value) (drop k pairs))
-rising_drop zero pairs rise = rise
-rising_drop (suc k) [] rise = tt
-rising_drop (suc k) (q ∷ pairs) rise = rising_drop k pairs (rising_tail q.value (map (λ q. q.value) pairs) rise)
-
 rising_insert : (pairs : List ValueCount) (k : ℕ) (d p : ValueCount) → k ≤ length pairs → IsRising (map (λ q. q.value) pairs) →
     (0 < k → (get_or pairs (k - 1) d).value < p.value) → AllByRecursion (λ q. p.value < q.value) (drop k pairs) →
     IsRising (map (λ q. q.value) (take k pairs ++ p ∷ drop k pairs))
@@ -96,13 +65,15 @@ rising_insert (q ∷ []) (suc (suc k)) d p within rise low high = absurd (omega 
 rising_insert (q ∷ r ∷ pairs) (suc (suc k)) d p within rise low high = (
   rise.0,
   rising_insert (r ∷ pairs) (suc k) d p (omega (arith, within)) rise.1
-      (λ some. subst (λ n. (get_or (q ∷ r ∷ pairs) n d).value < p.value) (let e : suc (suc k) - 1 ≡ suc (suc k - 1) = omega arith in e) (low (omega arith))) high,
+      (λ some. subst (λ n. (get_or (q ∷ r ∷ pairs) n d).value < p.value) (let e : suc (suc k) - 1 ≡ suc (suc k - 1) = omega arith in e)
+      (low (omega arith))) high,
 )
 
 -- a new value
 pub new_at : (of : ℕ → ℕ) (pairs pairs' : List ValueCount) (k value count : ℕ) (d : ValueCount) → k ≤ length pairs →
     (0 < k → (get_or pairs (k - 1) d).value < value) → AllByRecursion (λ q. value < q.value) (drop k pairs) → 0 < count →
-    pairs' ≡ take k pairs ++ record { value = value; count = count } ∷ drop k pairs → AreValues of pairs → AreValues (λ v. of v + cond (eqb value v) count 0) pairs'
+    pairs' ≡ take k pairs ++ record { value = value; count = count } ∷ drop k pairs → AreValues of pairs →
+    AreValues (λ v. of v + cond (eqb value v) count 0) pairs'
 new_at of pairs pairs' k value count d within low high some is are =
     let p : ValueCount = record { value = value; count = count } in
     record {
@@ -111,24 +82,15 @@ new_at of pairs pairs' k value count d within low high some is are =
           subst (AllByRecursion (λ (q : ValueCount). 0 < q.count)) (sym is)
           (all_append (λ (q : ValueCount). 0 < q.count) (take k pairs) (p ∷ drop k pairs) (all_take (λ (q : ValueCount). 0 < q.count) k pairs are.positive)
           (some, all_drop (λ (q : ValueCount). 0 < q.count) k pairs are.positive));
-      at = λ v.
-          omega (
-            arith,
-            ap (λ l. sum_at l v) is,
-            sum_by-insert (λ (q : ValueCount). cond (eqb q.value v) q.count 0) pairs k p,
-            are.at v,
-          );
+      at = λ v. omega (arith, ap (λ l. sum_at l v) is, sum_by-insert (λ (q : ValueCount). cond (eqb q.value v) q.count 0) pairs k p, are.at v);
     }
 
-pub none_at : (of : ℕ → ℕ) (pairs : List ValueCount) (value count : ℕ) → count ≡ 0 → AreValues of pairs → AreValues (λ v. of v + cond (eqb value v) count 0) pairs
+pub none_at : (of : ℕ → ℕ) (pairs : List ValueCount) (value count : ℕ) → count ≡ 0 → AreValues of pairs →
+    AreValues (λ v. of v + cond (eqb value v) count 0) pairs
 none_at of pairs value count none are = record {
   rising = are.rising;
   positive = are.positive;
-  at = λ v.
-      ⊎_elim
-      (λ here. omega (arith, are.at v, cond-true {A = ℕ} (eqb value v) count 0 here, none))
-      (λ other. omega (arith, are.at v, cond-false {A = ℕ} (eqb value v) count 0 other))
-      (cases_Bool (eqb value v));
+  at = λ v. grind (arith, nat_tests, are.at v, none);
 }
 
 pub values_same : (f g : ℕ → ℕ) (pairs : List ValueCount) → ((v : ℕ) → f v ≡ g v) → AreValues f pairs → AreValues g pairs
@@ -138,8 +100,7 @@ values_same f g pairs same are = record { rising = are.rising; positive = are.po
 pub count_within : (pairs : List ValueCount) (k : ℕ) (d : ValueCount) (v : ℕ) → k < length pairs → (get_or pairs k d).value ≡ v →
     (get_or pairs k d).count ≤ sum_at pairs v
 count_within [] k d v short is = absurd (omega (arith, short))
-count_within (q ∷ pairs) zero d v short is =
-    omega (arith, sum_by-cons (λ (r : ValueCount). cond (eqb r.value v) r.count 0) q pairs, cond-true {A = ℕ} (eqb q.value v) q.count 0 (eq-eqb q.value v is))
+count_within (q ∷ pairs) zero d v short is = grind (arith, nat_tests, sum_by-cons (λ (r : ValueCount). cond (eqb r.value v) r.count 0) q pairs, is)
 count_within (q ∷ pairs) (suc k) d v short is =
     omega (arith, sum_by-cons (λ (r : ValueCount). cond (eqb r.value v) r.count 0) q pairs, count_within pairs k d v (omega (arith, short)) is)
 
@@ -154,36 +115,20 @@ later_greater v (q ∷ pairs) rise = (rise.0, weaker pairs (later_greater q.valu
 sum_none : (v : ℕ) (pairs : List ValueCount) → AllByRecursion (λ q. v < q.value) pairs → sum_at pairs v ≡ 0
 sum_none v [] all = refl
 sum_none v (q ∷ pairs) all =
-    ⊎_elim
-    (λ here. absurd (omega (arith, all.0, eqb-true q.value v here)))
-    (λ other.
-    omega (arith, sum_by-cons (λ (r : ValueCount). cond (eqb r.value v) r.count 0) q pairs, cond-false {A = ℕ} (eqb q.value v) q.count 0 other, sum_none v pairs all.1))
-    (cases_Bool (eqb q.value v))
+    grind (arith, nat_tests, sum_by-cons (λ (r : ValueCount). cond (eqb r.value v) r.count 0) q pairs, all.0, sum_none v pairs all.1)
 
 -- the pair of a value has its whole sum
 sum_there : (pairs : List ValueCount) (k : ℕ) (d : ValueCount) → IsRising (map (λ q. q.value) pairs) → k < length pairs →
     sum_at pairs (get_or pairs k d).value ≡ (get_or pairs k d).count
 sum_there [] k d rise short = absurd (omega (arith, short))
 sum_there (q ∷ pairs) zero d rise short =
-    omega (
-      arith,
-      sum_by-cons (λ (r : ValueCount). cond (eqb r.value q.value) r.count 0) q pairs,
-      cond-true {A = ℕ} (eqb q.value q.value) q.count 0 (eq-eqb q.value q.value refl),
-      sum_none q.value pairs (later_greater q.value pairs rise),
-    )
+    let sums = sum_by-cons (λ (r : ValueCount). cond (eqb r.value q.value) r.count 0) q pairs in
+    grind (arith, nat_tests, sums, sum_none q.value pairs (later_greater q.value pairs rise))
 sum_there (q ∷ pairs) (suc k) d rise short =
     let v : ℕ = (get_or pairs k d).value in
     let greater = all_at (λ (r : ValueCount). q.value < r.value) pairs k d (omega (arith, short)) (later_greater q.value pairs rise) in
-    ⊎_elim
-    (λ here. absurd (omega (arith, greater, eqb-true q.value v here)))
-    (λ other.
-    omega (
-      arith,
-      sum_by-cons (λ (r : ValueCount). cond (eqb r.value v) r.count 0) q pairs,
-      cond-false {A = ℕ} (eqb q.value v) q.count 0 other,
-      sum_there pairs k d (rising_tail q.value (map (λ r. r.value) pairs) rise) (omega (arith, short)),
-    ))
-    (cases_Bool (eqb q.value v))
+    let further = sum_there pairs k d (rising_tail q.value (map (λ r. r.value) pairs) rise) (omega (arith, short)) in
+    grind (arith, nat_tests, sum_by-cons (λ (r : ValueCount). cond (eqb r.value v) r.count 0) q pairs, greater, further)
 
 pair_is : (p q : ValueCount) → p.value ≡ q.value → p.count ≡ q.count → p ≡ q
 pair_is p q values counts =
@@ -222,9 +167,4 @@ values_exact of pairs v n are =
 
 pub count_below_here : (table : Table) (counts : List ℕ) (list value : ℕ) → largest (statuses_of table list) ≡ value →
     count_below table counts (list + 1) value ≡ count_below table counts list value + get_or counts list 0
-count_below_here table counts list value is =
-    omega (
-      arith,
-      count_below_one table counts list value,
-      cond-true {A = ℕ} (eqb (largest (statuses_of table list)) value) (get_or counts list 0) 0 (eq-eqb (largest (statuses_of table list)) value is),
-    )
+count_below_here table counts list value is = grind (arith, nat_tests, count_below_one table counts list value, is)

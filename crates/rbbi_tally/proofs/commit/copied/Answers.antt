@@ -30,5 +30,7 @@ loop-kept-preserved c =
 pub new-requires-2-clause-small : goal.new-requires-2-clause-small
 new-requires-2-clause-small c =
     let all = segments_by c.args.start c.args.items.now in
-    let is = c.loop-kept.invariant ∙ take_all c.loop-kept.kept-index all (omega (arith, length-map c.args.items.now (segment_of c.args.start), c.loop-kept-test.false)) in
-    subst (λ l. AllByRecursion (λ s. s.look ≤ most_looked) l) (sym is) (all_through FitText (λ (s : Segment). s.look ≤ most_looked) (λ s fit. fit.look) all c.requires.small)
+    let is = c.loop-kept.invariant
+    ∙ take_all c.loop-kept.kept-index all (omega (arith, length-map c.args.items.now (segment_of c.args.start), c.loop-kept-test.false)) in
+    subst (λ l. AllByRecursion (λ s. s.look ≤ most_looked) l) (sym is)
+    (all_through FitText (λ (s : Segment). s.look ≤ most_looked) (λ s fit. fit.look) all c.requires.small)

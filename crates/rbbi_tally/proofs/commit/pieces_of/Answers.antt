@@ -15,7 +15,8 @@ loop-from-preserved c =
     let inv = c.loop-from.invariant in
     let p = c.in_ok-copied.field-0 in
     record {
-      are_pieces = subst ArePieces (sym c.in_ok-push.ensures.items) (all_append IsPiece c.loop-from.pieces.items (p ∷ []) inv.are_pieces (c.in_ok-copied.ensures.0, tt));
+      are_pieces = subst ArePieces (sym c.in_ok-push.ensures.items)
+          (all_append IsPiece c.loop-from.pieces.items (p ∷ []) inv.are_pieces (c.in_ok-copied.ensures.0, tt));
       parts =
           piece_more c.loop-from.pieces.items c.push.new.self.items p c.args.start c.loop-from.from c.min-to.result c.args.items.now
           c.in_ok-push.ensures.items (omega (arith, c.min-to.ensures, c.loop-from-test.true)) c.in_ok-copied.ensures.1 inv.parts;

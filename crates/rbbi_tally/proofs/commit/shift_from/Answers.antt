@@ -36,4 +36,5 @@ returns-clause-behind c =
     let inv = c.loop-k.invariant in
     let edit = c.args.edit in
     ap (λ l. contents (drop c.args.past l)) (sym (take_all c.loop-k.k c.loop-k.pieces (omega (arith, inv.len, c.loop-k-test.false)))) ∙ inv.done
-    ∙ ap (λ l. map (moved edit.removed edit.inserted) (contents (drop c.args.past l))) (take_all c.loop-k.k c.args.pieces.now (omega (arith, c.loop-k-test.false)))
+    ∙ ap (λ l. map (moved edit.removed edit.inserted) (contents (drop c.args.past l)))
+    (take_all c.loop-k.k c.args.pieces.now (omega (arith, c.loop-k-test.false)))

@@ -5,7 +5,7 @@ use Rattle.rbbi_tally.specs.declared.counts.ValueCount.{ValueCount}
 use Rattle.rbbi_tally.proofs.Values.{more_at, new_at, none_at, count_within}
 use Rattle.rbbi_tally.proofs.counts.add.Goals as goal
 use Rattle.rbbi_tally.proofs.counts.add.Goals.{else-place-gt0-via-then-place-gt0+else-index-value-2, else-place-gt0-via-else-place-gt0}
-use Rattle.rbbi_tally.proofs.counts.add.Goals.{then-loop-place-test+else-index-value, else-loop-place-test}
+use Rattle.rbbi_tally.proofs.counts.add.Goals.{After-index_mut, then-loop-place-test+else-index-value, else-loop-place-test}
 
 pub returns-then-count-eq0 : goal.returns-then-count-eq0
 returns-then-count-eq0 c = λ of are. none_at of c.args.pairs.now.items c.args.value c.args.count c.if-count-eq0.true are
@@ -23,28 +23,25 @@ loop-place-preserved c =
       ),
     )
 
+-- the pair before the place has the value
+there : (c : After-index_mut) → (c.loop-place.place - 1 < length c.args.pairs.now.items)
+    × ((get_or c.args.pairs.now.items (c.loop-place.place - 1) c.index_mut.result.now).value ≡ c.args.value)
+there c =
+    let short : c.loop-place.place - 1 < length c.args.pairs.now.items = omega (arith, c.loop-place.invariant.0, c.if-place-gt0.true) in
+    let same = get_or_default c.args.pairs.now.items (c.loop-place.place - 1) c.index_mut.result.now c.index-then-place-gt0.result.now short in
+    (short, ap (λ (p : ValueCount). p.value) (same ∙ sym c.index-then-place-gt0.ensures) ∙ c.if-index-value-2.true)
+
 pub overflow_add-index_mut : goal.overflow_add-index_mut
 overflow_add-index_mut c =
-    let pairs = c.args.pairs.now.items in
-    let place = c.loop-place.place in
-    let d = c.index_mut.result.now in
-    let short : place - 1 < length pairs = omega (arith, c.loop-place.invariant.0, c.if-place-gt0.true) in
-    let same = get_or_default pairs (place - 1) d c.index-then-place-gt0.result.now short in
-    let value : (get_or pairs (place - 1) d).value ≡ c.args.value =
-    ap (λ (p : ValueCount). p.value) (same ∙ sym c.index-then-place-gt0.ensures) ∙ c.if-index-value-2.true in
-    omega (arith, c.requires, count_within pairs (place - 1) d c.args.value short value, ap (λ (p : ValueCount). p.count) c.index_mut.ensures.value)
+    let here = there (goal.at.overflow_add-index_mut c).After-index_mut in
+    let within = count_within _ _ _ _ here.0 here.1 in
+    omega (arith, ap (λ (p : ValueCount). p.count) c.index_mut.ensures.value)
 
 pub returns-then-index-value-2 : goal.returns-then-index-value-2
 returns-then-index-value-2 c = λ of are.
-    let pairs = c.args.pairs.now.items in
-    let place = c.loop-place.place in
-    let d = c.index_mut.result.now in
-    let short : place - 1 < length pairs = omega (arith, c.loop-place.invariant.0, c.if-place-gt0.true) in
-    let same = get_or_default pairs (place - 1) d c.index-then-place-gt0.result.now short in
-    let value : (get_or pairs (place - 1) d).value ≡ c.args.value =
-    ap (λ (p : ValueCount). p.value) (same ∙ sym c.index-then-place-gt0.ensures) ∙ c.if-index-value-2.true in
-    more_at of pairs (place - 1) c.args.value c.args.count d (record { value = d.value; count = d.count + c.args.count }) short value
-    (ap (λ (p : ValueCount). p.value) c.index_mut.ensures.value ∙ value) (ap (λ (p : ValueCount). p.count + c.args.count) c.index_mut.ensures.value) are
+    let here = there (goal.at.returns-then-index-value-2 c).After-index_mut in
+    more_at of _ _ c.args.value c.args.count _ _ here.0 here.1 (ap (λ (p : ValueCount). p.value) c.index_mut.ensures.value ∙ here.1)
+    (ap (λ (p : ValueCount). p.count + c.args.count) c.index_mut.ensures.value) are
 
 pub returns : goal.returns
 returns c = λ of are.
@@ -58,13 +55,9 @@ returns c = λ of are.
           elim c.loop-place-test.branch [
             | then-loop-place-test+else-index-value v ↦
                 let short : place - 1 < length pairs = omega (arith, c.loop-place.invariant.0, some) in
-                omega (
-                  arith,
-                  v.if-index-value.false,
-                  w.if-index-value-2.false,
-                  ap (λ (p : ValueCount). p.value) (get_or_default pairs (place - 1) d v.index.result.now short ∙ sym v.index.ensures),
-                  ap (λ (p : ValueCount). p.value) (get_or_default pairs (place - 1) d w.index-then-place-gt0.result.now short ∙ sym w.index-then-place-gt0.ensures),
-                )
+                let same = get_or_default pairs (place - 1) d v.index.result.now short ∙ sym v.index.ensures in
+                let same' = get_or_default pairs (place - 1) d w.index-then-place-gt0.result.now short ∙ sym w.index-then-place-gt0.ensures in
+                omega (arith, ap (λ (p : ValueCount). p.value) same, ap (λ (p : ValueCount). p.value) same')
             | else-loop-place-test v ↦ absurd (omega (arith, some, v.loop-place-test.false))
           ]
       | else-place-gt0-via-else-place-gt0 w ↦ absurd (omega (arith, some, w.if-place-gt0.false))

@@ -1,4 +1,4 @@
-use Rattle.std.proofs.Common.{◌≡◌, ◌+◌, ◌-◌, ◌<◌, cond, eqb, length, get_or, sym, ap, ◌∙◌, subst, arith}
+use Rattle.std.proofs.Common.{◌≡◌, ◌+◌, ◌<◌, cond, eqb, length, get_or, sym, ap, ◌∙◌, subst, arith}
 use Rattle.rbbi_model.specs.Places.{largest}
 use Rattle.rbbi_model.specs.Tables.{statuses_of}
 use Rattle.rbbi_tally.specs.inner.Values.{count_below, AreValues}
@@ -11,16 +11,10 @@ add-requires c =
     let counts = c.args.counts.now in
     let list = c.loop-list.list in
     let short : list < length table.lists = omega (arith, c.lists-list-end.ensures, c.loop-list-test.true) in
-    let whole : list + 1 + (length table.lists - (list + 1)) ≡ length table.lists = omega arith in
     let value : c.largest_of.result ≡ largest (statuses_of table list) = c.largest_of.ensures ∙ ap largest c.status_list.ensures in
-    omega (
-      arith,
-      c.loop-list.invariant.at c.largest_of.result,
-      c.requires.small c.largest_of.result,
-      count_below_grows table counts c.largest_of.result (list + 1) (length table.lists - (list + 1)),
-      ap (λ n. count_below table counts n c.largest_of.result) whole,
-      count_below_here table counts list c.largest_of.result (sym value),
-    )
+    let grows = count_below_grows table counts c.largest_of.result (list + 1) (length table.lists) (omega arith) in
+    let here = count_below_here table counts list c.largest_of.result (sym value) in
+    omega (arith, c.loop-list.invariant.at c.largest_of.result, c.requires.small c.largest_of.result)
 
 pub loop-list-preserved : goal.loop-list-preserved
 loop-list-preserved c =

@@ -1,4 +1,4 @@
-use Rattle.std.proofs.Common.{◌≡◌, ◌+◌, ◌<◌, ◌≤◌, ◌⊎◌, ◌∷◌, [], List, ℕ, length, sym, ap, ◌∙◌, subst, inl, inr, arith}
+use Rattle.std.proofs.Common.{◌≡◌, ◌+◌, ◌<◌, ◌∷◌, [], List, ℕ, length, sym, ap, ◌∙◌, subst, inl, inr, arith}
 use Rattle.std.proofs.lemmas.List.{length-map}
 use Rattle.std.proofs.lemmas.List.Sums.{sum_by_push}
 use Rattle.rbbi_model.specs.Costs.{characters_read}
@@ -11,13 +11,25 @@ use Rattle.rbbi_tally.specs.inner.Pieces.{segment_of, segments_by, segments_in}
 use Rattle.rbbi_tally.proofs.SegmentLists.{segments_go_on, segments_push}
 use Rattle.rbbi_tally.proofs.Counted.{recounted_on}
 use Rattle.rbbi_tally.proofs.Filling.{begin_of, some_found, looks_small, counts_small}
+use Rattle.rbbi_tally.proofs.open.fill.Given.{Over}
 use Rattle.rbbi_tally.proofs.open.fill.Goals as goal
-use Rattle.rbbi_tally.proofs.open.fill.Goals.{then-loop-place-test+else-len-lt-FILLED, else-loop-place-test}
+use Rattle.rbbi_tally.proofs.open.fill.Goals.{Left-loop-place, then-loop-place-test+else-len-lt-FILLED, else-loop-place-test}
+
+-- at the end of the text, or with a full piece, there is a segment
+some : (g : Over) (c : Left-loop-place g) → 0 < length c.loop-place.items.items
+some g c =
+    let x = g.T.Chars.characters c.args.text.now in
+    some_found c.args.table.now x c.args.start c.loop-place.place c.loop-place.items.items c.loop-place.invariant.segments c.requires.within
+    (elim c.loop-place-test.branch [
+      | then-loop-place-test+else-len-lt-FILLED w ↦ inr (omega (arith, w.len.ensures, w.if-len-lt-FILLED.false))
+      | else-loop-place-test w ↦ inl (omega (arith, c.len-len.ensures.exact, w.loop-place-test.false))
+    ])
 
 pub search_from-place-requires-clause-start : goal.search_from-place-requires-clause-start
 search_from-place-requires-clause-start g c =
     let x = g.T.Chars.characters c.args.text.now in
-    omega (arith, segments_go_on c.args.table.now x c.args.start c.loop-place.place (segments_by c.args.start c.loop-place.items.items) c.loop-place.invariant.segments)
+    let segments = c.loop-place.invariant.segments in
+    omega (arith, segments_go_on c.args.table.now x c.args.start c.loop-place.place (segments_by c.args.start c.loop-place.items.items) segments)
 
 pub search_from-place-requires-clause-few : goal.search_from-place-requires-clause-few
 search_from-place-requires-clause-few g c =
@@ -55,14 +67,7 @@ loop-place-preserved g c =
           subst (λ l. IsRecounted [] l c.args.counts.now c.search_from-place.new.counts) (sym is)
           (recounted_on [] [] items (there ∷ []) c.args.counts.now c.loop-place.counts c.search_from-place.new.counts inv.counted
           c.search_from-place.ensures.counted);
-      read =
-          omega (
-            arith,
-            c.search_from-place.ensures.read,
-            inv.read,
-            ap (λ l. reads_of table x l) is,
-            sum_by_push f items there,
-          );
+      read = omega (arith, ap (λ l. reads_of table x l) is, sum_by_push f items there);
       capacity = c.search_from-place.ensures.room ∙ inv.capacity;
       fit = c.search_from-place.ensures.fit ∙ inv.fit;
     }
@@ -75,39 +80,21 @@ new-requires-clause-small g c =
 
 pub new-requires-clause-begin : goal.new-requires-clause-begin
 new-requires-clause-begin g c =
-    let x = g.T.Chars.characters c.args.text.now in
-    let inv = c.loop-place.invariant in
-    let ended : (length x ≤ c.loop-place.place) ⊎ (1536 ≤ length c.loop-place.items.items) =
-    elim c.loop-place-test.branch [
-      | then-loop-place-test+else-len-lt-FILLED w ↦ inr (omega (arith, w.len.ensures, w.if-len-lt-FILLED.false))
-      | else-loop-place-test w ↦ inl (omega (arith, c.len-len.ensures.exact, w.loop-place-test.false))
-    ] in
-    begin_of c.args.table.now x c.args.start c.loop-place.place c.loop-place.items.items inv.segments
-    (some_found c.args.table.now x c.args.start c.loop-place.place c.loop-place.items.items inv.segments c.requires.within ended)
+    begin_of c.args.table.now (g.T.Chars.characters c.args.text.now) c.args.start c.loop-place.place c.loop-place.items.items c.loop-place.invariant.segments
+    (some g (goal.at.new-requires-clause-begin g c).Left-loop-place)
 
 pub returns-clause-filled : goal.returns-clause-filled
 returns-clause-filled g c =
     let x = g.T.Chars.characters c.args.text.now in
     let table = c.args.table.now in
     let inv = c.loop-place.invariant in
-    let ended : (length x ≤ c.loop-place.place) ⊎ (1536 ≤ length c.loop-place.items.items) =
-    elim c.loop-place-test.branch [
-      | then-loop-place-test+else-len-lt-FILLED w ↦ inr (omega (arith, w.len.ensures, w.if-len-lt-FILLED.false))
-      | else-loop-place-test w ↦ inl (omega (arith, c.len-len.ensures.exact, w.loop-place-test.false))
-    ] in
-    let some = some_found table x c.args.start c.loop-place.place c.loop-place.items.items inv.segments c.requires.within ended in
+    let on = segments_go_on table x c.args.start c.loop-place.place (segments_by c.args.start c.loop-place.items.items) inv.segments in
     let is : segments_in c.new.result ≡ segments_by c.args.start c.loop-place.items.items =
     ap (λ n. segments_by n c.new.result.items.items) c.new.ensures.start ∙ ap (λ v. segments_by c.args.start v.items) c.new.ensures.items in
     record {
       is = c.new.ensures.is;
       segments = subst (λ l. AreSegments table x c.args.start c.loop-place.place l) (sym is) inv.segments;
-      further = omega (
-        arith,
-        some,
-        length-map c.loop-place.items.items (segment_of c.args.start),
-        segments_go_on table x c.args.start c.loop-place.place (segments_by c.args.start
-            c.loop-place.items.items) inv.segments,
-      );
+      further = omega (arith, some g (goal.at.returns-clause-filled g c).Left-loop-place, length-map c.loop-place.items.items (segment_of c.args.start));
       within = inv.within;
       counted = subst (λ l. IsRecounted [] l c.args.counts.now c.loop-place.counts) (sym is) inv.counted;
       read = inv.read ∙ ap (λ l. c.args.steps.now + reads_of table x l) (sym is);

@@ -16,8 +16,8 @@ fill-requires-clause-few g c =
     let x = g.T.Chars.characters c.args.text.now in
     let inv = c.loop-place.invariant in
     subst (λ ns. (list : ℕ) → list < length ns → get_or ns list 0 ≤ c.loop-place.place) (sym c.deref_mut.ensures.value)
-    (counts_few c.args.table.now x (length c.args.table.now.lists) c.loop-place.place (contents c.loop-place.pieces.items) c.loop-place.counts.items inv.segments
-    inv.counted)
+    (counts_few c.args.table.now x (length c.args.table.now.lists) c.loop-place.place (contents c.loop-place.pieces.items)
+    c.loop-place.counts.items inv.segments inv.counted)
 
 pub returns-in_err-filled-clause-reads : goal.returns-in_err-filled-clause-reads
 returns-in_err-filled-clause-reads g c =
@@ -65,14 +65,7 @@ loop-place-preserved g c =
           (subst (λ l. AreCountsOf (length table.lists) l counts) (sym are)
           (counts_more (length table.lists) old new c.deref_mut.result.now counts
           (subst (AreCountsOf (length table.lists) old) (sym value) inv.counted) fills.counted));
-      read =
-          omega (
-            arith,
-            inv.read,
-            fills.read,
-            ap (λ l. reads_of table x l) are,
-            sum_by-append (λ s. characters_read table x s.at) old new,
-          );
+      read = omega (arith, fills.read, ap (λ l. reads_of table x l) are, sum_by-append (λ s. characters_read table x s.at) old new);
       fit = c.in_ok-filled.ensures.fit ∙ inv.fit;
     }
 

@@ -1,4 +1,4 @@
-use Rattle.std.proofs.Common.{[], List, ℕ, sym, refl, ap, ◌∙◌, subst, inr, arith}
+use Rattle.std.proofs.Common.{◌≡◌, false, [], List, ℕ, sym, refl, ap, ◌∙◌, subst, inr, arith}
 use Rattle.std.proofs.lemmas.List.{length-map}
 use Rattle.std.proofs.lemmas.List.Sums.{sum_by_push}
 use Rattle.rbbi_model.specs.Costs.{characters_read}
@@ -11,8 +11,18 @@ use Rattle.rbbi_tally.specs.inner.Searching.{AreFound, IsMet, reads_of}
 use Rattle.rbbi_tally.specs.inner.Pieces.{segment_of, segments_by, segments_from}
 use Rattle.rbbi_tally.proofs.PieceLists.{up_to_on}
 use Rattle.rbbi_tally.proofs.SegmentLists.{segments_go_on}
-use Rattle.rbbi_tally.proofs.SearchingAgain.{counted_now, gone_ready, gone_met, ready_room, ready_few, next_found}
+use Rattle.rbbi_tally.proofs.SearchingAgain.{IsReady, counted_now, gone_ready, gone_met, ready_room, ready_few, next_found}
+use Rattle.rbbi_tally.proofs.search.search_again.Given.{Over}
 use Rattle.rbbi_tally.proofs.search.search_again.Goals as goal
+use Rattle.rbbi_tally.proofs.search.search_again.Goals.{After-meets}
+
+-- where the old and the new ones don't meet, the next search may begin
+ready : (g : Over) (c : After-meets g) → c.meets.result ≡ false → IsReady c.args.table.now (g.T.Chars.characters c.args.text.now) c.args.edit
+    c.args.start (segments_from c.args.pieces.now c.args.first) c.args.end (segments_by c.args.start c.loop-edit.items.items) c.loop-edit.place
+    (segments_from c.args.pieces.now c.meets.new.spot) c.args.counts.now c.meets.new.counts
+ready g c none =
+    let inv = c.loop-edit.invariant in
+    gone_ready _ _ _ _ _ _ _ _ _ _ _ _ _ _ c.requires.length c.requires.within inv.within c.requires.rise inv.are_found c.meets.ensures.gone_to none
 
 pub meets-requires-clause-counted : goal.meets-requires-clause-counted
 meets-requires-clause-counted g c = counted_now _ _ _ _ _ _ _ _ _ _ _ c.requires.counted c.loop-edit.invariant.are_found
@@ -29,63 +39,43 @@ returns-then-meets-clause-met g c =
     gone_met _ _ _ _ _ _ _ _ _ _ _ _ _ _ c.requires.length c.requires.within inv.within c.requires.rise inv.are_found c.meets.ensures.gone_to c.if-meets.true
 
 pub search_from-place-requires-clause-within : goal.search_from-place-requires-clause-within
-search_from-place-requires-clause-within g c =
-    let inv = c.loop-edit.invariant in
-    let ready = gone_ready _ _ _ _ _ _ _ _ _ _ _ _ _ _ c.requires.length c.requires.within inv.within c.requires.rise inv.are_found c.meets.ensures.gone_to
-    c.if-meets.false in
-    ready.short
+search_from-place-requires-clause-within g c = (ready g (goal.at.search_from-place-requires-clause-within g c).After-meets c.if-meets.false).short
 
 pub search_from-place-requires-clause-start : goal.search_from-place-requires-clause-start
 search_from-place-requires-clause-start g c =
-    let inv = c.loop-edit.invariant in
-    let ready = gone_ready _ _ _ _ _ _ _ _ _ _ _ _ _ _ c.requires.length c.requires.within inv.within c.requires.rise inv.are_found c.meets.ensures.gone_to
-    c.if-meets.false in
     let items : List Segment = segments_by c.args.start c.loop-edit.items.items in
-    omega (arith, segments_go_on c.args.table.now (g.T.Chars.characters c.args.text.now) c.args.start c.loop-edit.place items ready.are_found.segments)
+    omega (
+      arith,
+      segments_go_on c.args.table.now (g.T.Chars.characters c.args.text.now) c.args.start c.loop-edit.place items
+          (ready g (goal.at.search_from-place-requires-clause-start g c).After-meets c.if-meets.false).are_found.segments,
+    )
 
 pub search_from-place-requires-clause-room : goal.search_from-place-requires-clause-room
 search_from-place-requires-clause-room g c =
-    let inv = c.loop-edit.invariant in
-    let ready = gone_ready _ _ _ _ _ _ _ _ _ _ _ _ _ _ c.requires.length c.requires.within inv.within c.requires.rise inv.are_found c.meets.ensures.gone_to
-    c.if-meets.false in
-    omega (
-      arith,
-      inv.room,
-      c.requires.room,
-      length-map c.loop-edit.items.items (segment_of c.args.start),
-      ready_room _ _ _ _ _ _ _ _ _ _ _ ready,
-    )
+    let room = ready_room _ _ _ _ _ _ _ _ _ _ _ (ready g (goal.at.search_from-place-requires-clause-room g c).After-meets c.if-meets.false) in
+    omega (arith, c.loop-edit.invariant.room, c.requires.room, length-map c.loop-edit.items.items (segment_of c.args.start), room)
 
 pub search_from-place-requires-clause-few : goal.search_from-place-requires-clause-few
 search_from-place-requires-clause-few g c =
-    let inv = c.loop-edit.invariant in
-    let ready = gone_ready _ _ _ _ _ _ _ _ _ _ _ _ _ _ c.requires.length c.requires.within inv.within c.requires.rise inv.are_found c.meets.ensures.gone_to
-    c.if-meets.false in
-    ready_few _ _ _ _ _ _ _ _ _ _ _ ready c.len-short.ensures.most c.requires.few
+    ready_few _ _ _ _ _ _ _ _ _ _ _ (ready g (goal.at.search_from-place-requires-clause-few g c).After-meets c.if-meets.false)
+    c.len-short.ensures.most c.requires.few
 
 pub search_from-place-requires-clause-lists : goal.search_from-place-requires-clause-lists
 search_from-place-requires-clause-lists g c =
-    let inv = c.loop-edit.invariant in
-    let ready = gone_ready _ _ _ _ _ _ _ _ _ _ _ _ _ _ c.requires.length c.requires.within inv.within c.requires.rise inv.are_found c.meets.ensures.gone_to
-    c.if-meets.false in
-    ready.are_found.counted.all ∙ c.requires.lists
+    (ready g (goal.at.search_from-place-requires-clause-lists g c).After-meets c.if-meets.false).are_found.counted.all ∙ c.requires.lists
 
 pub loop-edit-smaller : goal.loop-edit-smaller
 loop-edit-smaller g c =
-    let x = g.T.Chars.characters c.args.text.now in
-    let inv = c.loop-edit.invariant in
-    let ready = gone_ready _ _ _ _ _ _ _ _ _ _ _ _ _ _ c.requires.length c.requires.within inv.within c.requires.rise inv.are_found c.meets.ensures.gone_to
-    c.if-meets.false in
-    omega (arith, ready.short, c.search_from-place.ensures.place, found_lies c.args.table.now x c.loop-edit.place ready.short)
+    let short = (ready g (goal.at.loop-edit-smaller g c).After-meets c.if-meets.false).short in
+    omega (arith, short, c.search_from-place.ensures.place, found_lies c.args.table.now (g.T.Chars.characters c.args.text.now) c.loop-edit.place short)
 
 pub loop-edit-preserved : goal.loop-edit-preserved
 loop-edit-preserved g c =
     let x = g.T.Chars.characters c.args.text.now in
     let items : List Segment = segments_by c.args.start c.loop-edit.items.items in
     let inv = c.loop-edit.invariant in
-    let ready = gone_ready _ _ _ _ _ _ _ _ _ _ _ _ _ _ c.requires.length c.requires.within inv.within c.requires.rise inv.are_found c.meets.ensures.gone_to
-    c.if-meets.false in
-    let lies = found_lies c.args.table.now x c.loop-edit.place ready.short in
+    let here = ready g (goal.at.loop-edit-preserved g c).After-meets c.if-meets.false in
+    let lies = found_lies c.args.table.now x c.loop-edit.place here.short in
     let f : Segment → ℕ = λ s. characters_read c.args.table.now x s.at in
     let found' : List Segment = segments_by c.args.start c.search_from-place.new.items.items in
     record {
@@ -94,13 +84,11 @@ loop-edit-preserved g c =
       are_found =
           subst (λ p. AreFound c.args.table.now x c.args.edit c.args.start (segments_from c.args.pieces.now c.args.first) c.args.end found' p
           (segments_from c.args.pieces.now c.meets.new.spot) c.args.counts.now c.search_from-place.new.counts) (sym c.search_from-place.ensures.place)
-          (next_found _ _ _ _ _ _ items _ _ _ _ _ found' ready c.search_from-place.ensures.items c.search_from-place.ensures.counted);
+          (next_found _ _ _ _ _ _ items _ _ _ _ _ found' here c.search_from-place.ensures.items c.search_from-place.ensures.counted);
       within = omega (arith, c.search_from-place.ensures.place, lies.1);
       read =
           omega (
             arith,
-            c.search_from-place.ensures.read,
-            inv.read,
             ap (λ l. reads_of c.args.table.now x l) c.search_from-place.ensures.items,
             sum_by_push f items (segment_at c.args.table.now x c.loop-edit.place),
           );

@@ -8,27 +8,22 @@ use Rattle.rbbi_tally.proofs.search.search_from.Goals as goal
 
 pub new-requires-clause-few : goal.new-requires-clause-few
 new-requires-clause-few g c =
-    omega (arith, c.next-found.ensures.look, (look_lies c.args.table.now (g.T.Chars.characters c.args.text.now) c.args.place c.requires.within).1, c.len-short.ensures.most)
+    omega (arith, (look_lies c.args.table.now (g.T.Chars.characters c.args.text.now) c.args.place c.requires.within).1)
 
 pub new-requires-clause-near : goal.new-requires-clause-near
 new-requires-clause-near g c = omega (arith, c.requires.within, c.len-short.ensures.most)
 
 pub new-requires-clause-list : goal.new-requires-clause-list
 new-requires-clause-list g c =
-    omega (
-      arith,
-      c.next-found.ensures.status,
-      found_within c.args.table.now c.valid.ensures (g.T.Chars.characters c.args.text.now) c.args.place,
-      c.valid.ensures.lists.few,
-    )
+    omega (arith, found_within c.args.table.now c.valid.ensures (g.T.Chars.characters c.args.text.now) c.args.place, c.valid.ensures.lists.few)
 
 pub bounds-counts-found : goal.bounds-counts-found
 bounds-counts-found g c =
-    omega (arith, c.next-found.ensures.status, found_within c.args.table.now c.valid.ensures (g.T.Chars.characters c.args.text.now) c.args.place, c.requires.lists)
+    omega (arith, found_within c.args.table.now c.valid.ensures (g.T.Chars.characters c.args.text.now) c.args.place)
 
 pub bounds-counts-found-2 : goal.bounds-counts-found-2
 bounds-counts-found-2 g c =
-    omega (arith, c.next-found.ensures.status, found_within c.args.table.now c.valid.ensures (g.T.Chars.characters c.args.text.now) c.args.place, c.requires.lists)
+    omega (arith, found_within c.args.table.now c.valid.ensures (g.T.Chars.characters c.args.text.now) c.args.place)
 
 pub returns-clause-items : goal.returns-clause-items
 returns-clause-items g c =

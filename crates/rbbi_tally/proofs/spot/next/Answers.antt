@@ -5,7 +5,8 @@ use Rattle.rbbi_tally.proofs.spot.next.Goals as goal
 
 pub returns-then-spot-len-clause-spot : goal.returns-then-spot-len-clause-spot
 returns-then-spot-len-clause-spot c =
-    item_spot c.args.pieces.now c.args.spot.piece (c.args.spot.item + 1) c.index-pieces-spot.result c.requires.short c.index-pieces-spot.is (omega (arith, ap (λ (q : Piece). vec_len q.items) c.index-pieces-spot.is))
+    item_spot c.args.pieces.now c.args.spot.piece (c.args.spot.item + 1) c.index-pieces-spot.result c.requires.short c.index-pieces-spot.is
+    (omega (arith, ap (λ (q : Piece). vec_len q.items) c.index-pieces-spot.is))
 
 pub returns-then-spot-len-clause-rest : goal.returns-then-spot-len-clause-rest
 returns-then-spot-len-clause-rest c = next_in_piece c.args.pieces.now c.args.spot

@@ -10,9 +10,5 @@ returns c =
     let within = c.requires.spot.within in
     let short : c.args.spot.piece < length ps = omega arith in
     let item = spot_item ps c.args.spot c.index-pieces-spot.result c.requires.spot short c.index-pieces-spot.is in
-    omega (
-      arith,
-      c.at.ensures.value,
-      ap (λ l. place_of l c.args.end) (segment_read ps c.args.spot c.index-pieces-spot.result c.index.result.now short
-          c.index-pieces-spot.is item c.index.ensures),
-    )
+    let read = segment_read ps c.args.spot c.index-pieces-spot.result c.index.result.now short c.index-pieces-spot.is item c.index.ensures in
+    omega (arith, ap (λ l. place_of l c.args.end) read)

@@ -3,47 +3,40 @@ use Rattle.rbbi_model.proofs.Lists.{all_append}
 use Rattle.rbbi_tally.specs.inner.Segments.{Segment, place_of}
 use Rattle.rbbi_tally.specs.inner.Pieces.{segment_of, segments_from}
 use Rattle.rbbi_tally.proofs.PieceLists.{nothing_at_end, up_to_on}
-use Rattle.rbbi_tally.proofs.Skipping.{read_at}
+use Rattle.rbbi_tally.proofs.Skipping.{IsReadAt, read_at}
 use Rattle.rbbi_tally.proofs.Counted.{count_first, one_gone, recounted_on}
 use Rattle.rbbi_tally.proofs.spot.skip.Goals as goal
+use Rattle.rbbi_tally.proofs.spot.skip.Goals.{After-index-kept}
+
+read : (c : After-index-kept) → IsReadAt c.args.pieces.now c.loop-spot.spot c.index-pieces-spot.result c.index-kept.result.now c.loop-spot.counts
+read c =
+    read_at c.args.pieces.now c.loop-spot.spot c.index-pieces-spot.result c.index-kept.result.now c.args.place c.args.from c.args.counts.now
+    c.loop-spot.counts c.loop-spot.invariant.is_spot c.loop-spot-test.true c.index-pieces-spot.is c.index-kept.ensures c.requires.counted
+    c.loop-spot.invariant.passed
 
 pub returns-then-piece-at-clause-skipped : goal.returns-then-piece-at-clause-skipped
 returns-then-piece-at-clause-skipped c =
-    let at = read_at c.args.pieces.now c.loop-spot.spot c.index-pieces-spot.result c.index-kept.result.now c.args.place c.args.from c.args.counts.now
-    c.loop-spot.counts c.loop-spot.invariant.is_spot c.loop-spot-test.true c.index-pieces-spot.is c.index-kept.ensures c.requires.counted
-    c.loop-spot.invariant.passed in
+    let at = read (goal.at.returns-then-piece-at-clause-skipped c).After-index-kept in
     record {
       are_passed = c.loop-spot.invariant.passed;
       reached = λ end within. omega (arith, ap (λ l. place_of l end) at.is, c.at.ensures.value, c.if-piece-at.true);
     }
 
 pub bounds-counts-list : goal.bounds-counts-list
-bounds-counts-list c =
-    let at = read_at c.args.pieces.now c.loop-spot.spot c.index-pieces-spot.result c.index-kept.result.now c.args.place c.args.from c.args.counts.now
-    c.loop-spot.counts c.loop-spot.invariant.is_spot c.loop-spot-test.true c.index-pieces-spot.is c.index-kept.ensures c.requires.counted
-    c.loop-spot.invariant.passed in
-    omega (arith, at.counted.listed.0, c.list.ensures.value)
+bounds-counts-list c = omega (arith, (read (goal.at.bounds-counts-list c).After-index-kept).counted.listed.0, c.list.ensures.value)
 
 pub bounds-counts-list-in-loop-spot : goal.bounds-counts-list-in-loop-spot
-bounds-counts-list-in-loop-spot c =
-    let at = read_at c.args.pieces.now c.loop-spot.spot c.index-pieces-spot.result c.index-kept.result.now c.args.place c.args.from c.args.counts.now
-    c.loop-spot.counts c.loop-spot.invariant.is_spot c.loop-spot-test.true c.index-pieces-spot.is c.index-kept.ensures c.requires.counted
-    c.loop-spot.invariant.passed in
-    omega (arith, at.counted.listed.0, c.list.ensures.value)
+bounds-counts-list-in-loop-spot c = omega (arith, (read (goal.at.bounds-counts-list-in-loop-spot c).After-index-kept).counted.listed.0, c.list.ensures.value)
 
 pub overflow_sub-counts : goal.overflow_sub-counts
 overflow_sub-counts c =
-    let at = read_at c.args.pieces.now c.loop-spot.spot c.index-pieces-spot.result c.index-kept.result.now c.args.place c.args.from c.args.counts.now
-    c.loop-spot.counts c.loop-spot.invariant.is_spot c.loop-spot-test.true c.index-pieces-spot.is c.index-kept.ensures c.requires.counted
-    c.loop-spot.invariant.passed in
-    let s = segment_of c.index-pieces-spot.result.start c.index-kept.result.now in
-    omega (arith, at.counted.each s.list at.counted.listed.0, count_first s at.rest, ap (λ n. get_or c.loop-spot.counts n 0) c.list.ensures.value)
+    let at = read (goal.at.overflow_sub-counts c).After-index-kept in
+    let first = count_first (segment_of c.index-pieces-spot.result.start c.index-kept.result.now) at.rest in
+    omega (arith, first, at.counted.each _ at.counted.listed.0, ap (λ n. get_or c.loop-spot.counts n 0) c.list.ensures.value)
 
 pub loop-spot-preserved : goal.loop-spot-preserved
 loop-spot-preserved c =
-    let at = read_at c.args.pieces.now c.loop-spot.spot c.index-pieces-spot.result c.index-kept.result.now c.args.place c.args.from c.args.counts.now
-    c.loop-spot.counts c.loop-spot.invariant.is_spot c.loop-spot-test.true c.index-pieces-spot.is c.index-kept.ensures c.requires.counted
-    c.loop-spot.invariant.passed in
+    let at = read (goal.at.loop-spot-preserved c).After-index-kept in
     let s : Segment = segment_of c.index-pieces-spot.result.start c.index-kept.result.now in
     let passed = c.loop-spot.invariant.passed in
     let next : segments_from c.args.pieces.now c.next-spot.result ≡ at.rest = c.next-spot.ensures.rest ∙ ap (drop 1) at.is in

@@ -12,7 +12,8 @@ pub new-requires-clause-near : goal.new-requires-clause-near
 new-requires-clause-near c =
     let here = drop_map_more (segment_of c.args.start) c.args.items.now c.loop-kept.kept-index no_item c.loop-kept-test.true in
     let near = subst (λ l. AllByRecursion (λ (s : Segment). s.at < c.args.self.now.start + most_characters) l) here
-    (all_drop (λ (s : Segment). s.at < c.args.self.now.start + most_characters) c.loop-kept.kept-index (segments_by c.args.start c.args.items.now) c.requires.near) in
+    (all_drop (λ (s : Segment). s.at < c.args.self.now.start + most_characters) c.loop-kept.kept-index
+    (segments_by c.args.start c.args.items.now) c.requires.near) in
     omega (arith, near.0, c.at.ensures.value, c.requires.behind)
 
 pub loop-kept-preserved : goal.loop-kept-preserved
