@@ -23,7 +23,8 @@ use Rattle.rbbi_command.specs.Reads.{MakesSomeReads, AreRead}
 use Rattle.rbbi_tool.specs.Texts.{text_stage}
 use Rattle.rbbi_tool.specs.Scripts.{script_stage}
 use Rattle.rbbi_tool.specs.Basis.{Basis, IsTableOf, basis_stage}
-use Rattle.rbbi_tool.specs.Steps.{counted, named_bytes, ReadsForBreaks, ReadsForScript, tally_cost, CommandReads, RequestReads, ReadsThrough, BreaksReads, RunReads}
+use Rattle.rbbi_tool.specs.Steps.{counted, named_bytes, ReadsForBreaks, ReadsForScript, tally_cost, CommandReads, RequestReads, ReadsThrough}
+use Rattle.rbbi_tool.specs.Steps.{BreaksReads, RunReads}
 use Rattle.rbbi_tool.specs.Filters.{FilteredBasis, filtered_stage}
 use Rattle.rbbi_tool.specs.inner.Steps.{given_bytes, ReadsInOrder}
 use Rattle.rbbi_tool.specs.inner.Prepared.{ReadsByEnd}

@@ -1,5 +1,6 @@
 -- Each stage is determined, and so is the outcome. The laws of the lower crates are handed in.
-use Rattle.std.proofs.Common.{◌≡◌, ◌≢◌, ◌⊎◌, ◌+◌, inl, inr, ⊎_elim, ℕ, Bool, true, false, List, [], ◌∷◌, length, Option, Some, None, is_some, sym, refl, ap, ◌∙◌}
+use Rattle.std.proofs.Common.{◌≡◌, ◌≢◌, ◌⊎◌, ◌+◌, inl, inr, ⊎_elim, ℕ, Bool, true, false, List, [], ◌∷◌, length, Option, Some, None, is_some, sym}
+use Rattle.std.proofs.Common.{refl, ap, ◌∙◌}
 use Rattle.std.proofs.Common.{arith}
 use Rattle.std.specs.Prelude.{codes, Result, Err, Ok}
 use Rattle.std.specs.Str.{chars}
@@ -401,7 +402,8 @@ module _ (laws : Laws) where
 
   filtered_determined : (kind : FilterKind) (options : Options) (inputs : Inputs) → IsDeterministic FilteredBasis (filtered_stage kind options inputs)
   filtered_determined kind options inputs =
-      determined_both (properties_stage options.properties inputs.properties) (λ _. followed_by (filter_stage kind inputs.filter) (behind_filter options inputs))
+      determined_both (properties_stage options.properties inputs.properties)
+      (λ _. followed_by (filter_stage kind inputs.filter) (behind_filter options inputs))
       (properties_determined options.properties inputs.properties)
       (λ _.
       determined_both (filter_stage kind inputs.filter) (behind_filter options inputs) (filter_file_determined kind inputs.filter)

@@ -74,7 +74,7 @@ fn told(alloc: Global, ended: Result<Prepared, Refusal>) -> Result<Prepared, All
 /// | status | comes | what is written |
 /// |---|---|---|
 /// | 0 | all is done | what the command tells |
-/// | 1 | all is done, and a test of `conform` or the marks of `same` differ | what the command tells |
+/// | 1 | all is done; a test of `conform` or the marks of `same` differ | what the command tells |
 /// | 2 | the words are of no stated form | how to call the program |
 /// | 3 | a rule file is too long, isn't UTF-8 or has a fault | the fault |
 /// | 4 | the table file is too long, or no spelling of a valid table | the fault |

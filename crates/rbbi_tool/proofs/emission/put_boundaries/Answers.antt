@@ -99,7 +99,8 @@ pub returns-in_err-put_when_full-clause-err : goal.returns-in_err-put_when_full-
 returns-in_err-put_when_full-clause-err g c =
     let told = err_from_is_err_and c.from_residual-in_err-put_when_full.result c.from_residual-in_err-put_when_full.ensures.1 in
     rw told.1
-    (put_refused _ _ _ _ _ (listed g (goal.at.returns-in_err-put_when_full-clause-err g c).After-status_list _ c.in_ok-say_bound-2.ensures).put _ c.in_err-put_when_full.ensures.err)
+    (put_refused _ _ _ _ _ (listed g (goal.at.returns-in_err-put_when_full-clause-err g c).After-status_list _ c.in_ok-say_bound-2.ensures).put _
+    c.in_err-put_when_full.ensures.err)
 
 pub returns-in_err-put_when_full-clause-steps : goal.returns-in_err-put_when_full-clause-steps
 returns-in_err-put_when_full-clause-steps g c = paid g (goal.at.returns-in_err-put_when_full-clause-steps g c).After-next-found

@@ -31,7 +31,8 @@ returns-in-Counts-clause-err g c =
 
 pub returns-in-ToldBoundaries-clause-err : goal.returns-in-ToldBoundaries-clause-err
 returns-in-ToldBoundaries-clause-err g c =
-    subst (λ l. OnErr c.put_boundaries_through.result (TakesFront (g.K.Sink.taken c.args.out.now) (g.K.Sink.taken c.put_boundaries_through.new.out) (bytes_of l)))
+    subst (λ l. OnErr c.put_boundaries_through.result (TakesFront (g.K.Sink.taken c.args.out.now) (g.K.Sink.taken c.put_boundaries_through.new.out)
+    (bytes_of l)))
     (sym c.in-ToldBoundaries.is) c.put_boundaries_through.ensures.err
 
 pub returns-in-ToldReplies-clause-ok : goal.returns-in-ToldReplies-clause-ok

@@ -13,5 +13,6 @@ returns-in_err-text-clause-exact c =
 
 pub returns-clause-exact : goal.returns-clause-exact
 returns-clause-exact c =
-    goes_on (rule_text_stage c.args.bytes.now) (rules_of_text_stage c.args.props.now c.args.ignored) rules_of (chars c.in_ok-text.text.now) c.rules_of_text.result
+    goes_on (rule_text_stage c.args.bytes.now) (rules_of_text_stage c.args.props.now c.args.ignored) rules_of
+    (chars c.in_ok-text.text.now) c.rules_of_text.result
     c.in_ok-text.ensures.exact c.rules_of_text.ensures.exact

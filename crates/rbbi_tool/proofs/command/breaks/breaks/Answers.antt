@@ -24,7 +24,8 @@ returns-in-None-clause-steps g c =
     let inputs = inputs_in c.args.inputs.now in
     let bytes = given_bytes inputs in
     subst (λ f. ReadsByEnd (rest_after c.plain_breaks.result)
-    (λ before end. RisesUpTo bytes before end ⊎ BreaksReads f (options_in c.args.options.now) inputs bytes before end) c.args.steps.now c.plain_breaks.new.steps)
+    (λ before end. RisesUpTo bytes before end ⊎ BreaksReads f (options_in c.args.options.now) inputs bytes before end) c.args.steps.now
+    c.plain_breaks.new.steps)
     (sym c.in-None.is) c.plain_breaks.ensures.steps
 
 pub returns-in-Some-clause-steps : goal.returns-in-Some-clause-steps

@@ -47,13 +47,15 @@ pub returns-in_err-filtered-clause-steps : goal.returns-in_err-filtered-clause-s
 returns-in_err-filtered-clause-steps g c =
     let told = err_from_is_err_and c.from_residual.result c.from_residual.ensures.1 in
     rw told.1
-    (λ end none. inl (rises_further _ (given_bytes (inputs_in c.args.inputs.now)) _ _ (rises_twice _ 0 _ _ end c.filtered_from.ensures.steps none) (omega arith)))
+    (λ end none. inl (rises_further _ (given_bytes (inputs_in c.args.inputs.now)) _ _ (rises_twice _ 0 _ _ end c.filtered_from.ensures.steps none)
+    (omega arith)))
 
 pub returns-in_err-text-clause-steps : goal.returns-in_err-text-clause-steps
 returns-in_err-text-clause-steps g c =
     let told = err_from_is_err_and c.from_residual-in_err-text.result c.from_residual-in_err-text.ensures.1 in
     rw told.1
-    (λ end none. inl (rises_further _ (given_bytes (inputs_in c.args.inputs.now)) _ _ (rises_twice _ 0 _ _ end c.filtered_from.ensures.steps none) (omega arith)))
+    (λ end none. inl (rises_further _ (given_bytes (inputs_in c.args.inputs.now)) _ _ (rises_twice _ 0 _ _ end c.filtered_from.ensures.steps none)
+    (omega arith)))
 
 pub returns-clause-steps : goal.returns-clause-steps
 returns-clause-steps g c =

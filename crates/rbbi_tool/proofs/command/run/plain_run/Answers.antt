@@ -74,5 +74,6 @@ returns-clause-steps g c =
     λ end more.
     replies_read _ _ _ _ c.commands_of.new.steps end basis.0 _ _ basis.1 basis.2 c.in_ok-text.ensures.exact
     (rises_further _ (given_bytes (inputs_in c.args.inputs.now)) _ _
-    (rises_by _ _ _ c.table_from.new.steps _ c.table_from.ensures.steps c.commands_of.ensures.steps) (omega arith)) _ (λ table. script_cost table c.args.options.now.unit) _
+    (rises_by _ _ _ c.table_from.new.steps _ c.table_from.ensures.steps c.commands_of.ensures.steps) (omega arith)) _
+    (λ table. script_cost table c.args.options.now.unit) _
     c.in_ok-commands.ensures.exact more
