@@ -1,0 +1,17 @@
+//! Tests of texts and of sets of code points, by public calls: nothing but tests.
+//!
+//! A crate with tests of its own is proved twice, so those of these crates stand here.
+#![tactic(auto)]
+
+#[cfg(test)]
+mod bit_rows;
+#[cfg(test)]
+mod classes;
+#[cfg(test)]
+mod code_sets;
+#[cfg(test)]
+mod numbered_rows;
+#[cfg(test)]
+mod ranges;
+#[cfg(test)]
+mod texts;

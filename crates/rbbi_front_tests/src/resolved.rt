@@ -1,0 +1,20 @@
+//! The rules of short files.
+ghost use Rattle.std.specs.Prelude.{◌≤◌, length};
+
+use rbbi_lex::lex;
+use rbbi_props::PropTable;
+use rbbi_resolve::{Rules, resolve};
+use rbbi_text::count_characters;
+use rbbi_tree::parse;
+use std::alloc::Global;
+use std::test::Fail;
+
+/// The rules of a text.
+pub(crate) fn rules_in(alloc: Global, text: &str) -> Result<Rules, Fail>
+    requires { length text.now ≤ 1000000 }
+{
+    let end = count_characters(text);
+    let tokens = lex(alloc, text)?;
+    let statements = parse(alloc, &tokens, end)?;
+    Ok(resolve(alloc, &statements, end, &PropTable::new(alloc), false)?)
+}

@@ -1,5 +1,0 @@
-use Rattle.rbbi_part_tests.proofs.tables.finds.Given as goal
-
--- a ledger of its own
-abbrev pub ghosts-searches : goal.ghosts-searches
-ghosts-searches g a = record { name = a.blank.name; parts = a.blank.parts }

@@ -1,0 +1,17 @@
+//! Tests of tables, table files and scripts, by public calls: nothing but tests.
+//!
+//! A crate with tests of its own is proved twice, so those of these crates stand here.
+#![tactic(auto)]
+
+#[cfg(test)]
+mod differences;
+#[cfg(test)]
+mod samples;
+#[cfg(test)]
+mod scripts;
+#[cfg(test)]
+mod table_files;
+#[cfg(test)]
+mod tables;
+#[cfg(test)]
+mod test_files;

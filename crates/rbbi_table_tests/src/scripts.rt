@@ -1,0 +1,216 @@
+//! Scripts line by line, and the lines of replies.
+use rbbi_script::{Command, Commands, Said, ScriptErr, read_script, say, say_bound, say_list};
+use std::alloc::{AllocError, Global};
+use std::process::Abort;
+use std::test::Fail;
+
+/// A command as a text, with its parts between `|`.
+fn shown(alloc: Global, command: &Command) -> Result<String, AllocError> {
+    match command {
+        Command::First => String::from_str(alloc, "first"),
+        Command::Last => String::from_str(alloc, "last"),
+        Command::Next => String::from_str(alloc, "next"),
+        Command::Previous => String::from_str(alloc, "previous"),
+        Command::Current => String::from_str(alloc, "current"),
+        Command::Status => String::from_str(alloc, "status"),
+        Command::Statuses => String::from_str(alloc, "statuses"),
+        Command::Breaks => String::from_str(alloc, "breaks"),
+        Command::Text => String::from_str(alloc, "text"),
+        Command::Following(place) => format!(in alloc; "following|{place}"),
+        Command::Preceding(place) => format!(in alloc; "preceding|{place}"),
+        Command::Is(place) => format!(in alloc; "is|{place}"),
+        Command::Replace { at, remove, text } => {
+            let text = text.as_str();
+            format!(in alloc; "replace|{at}|{remove}|{text}|")
+        }
+    }
+}
+
+/// The commands of a script, one a line, or its refusal.
+fn read(alloc: Global, bytes: &[u8]) -> Result<String, AllocError> {
+    if bytes.len() > 1000 {
+        return String::from_str(alloc, "long");
+    }
+    match read_script(alloc, bytes) {
+        Ok(commands) => joined(alloc, &commands),
+        Err(error) => {
+            let label = error.label();
+            match error.place() {
+                Some(place) => format!(in alloc; "{label} {place}"),
+                None => String::from_str(alloc, label),
+            }
+        }
+    }
+}
+
+fn joined(alloc: Global, commands: &Commands) -> Result<String, AllocError> {
+    let mut all = String::new(alloc);
+    for i in 0..commands.len() {
+        let one = shown(alloc, commands.get(i))?;
+        all.push_str(&one)?;
+        all.push('\n')?;
+    }
+    Ok(all)
+}
+
+#[test]
+fn scripts(rt: HostRuntime) -> Result<(), Fail> {
+    let alloc = rt.alloc();
+    let rows: [(&str, &str); 14] = [
+        ("", ""),
+        (
+            "first\nlast\nnext\nprevious\ncurrent\nstatus\nstatuses\nbreaks\ntext",
+            "first\nlast\nnext\nprevious\ncurrent\nstatus\nstatuses\nbreaks\ntext\n",
+        ),
+        (
+            "following 0\npreceding 4294967295\nis 007\n",
+            "following|0\npreceding|4294967295\nis|7\n",
+        ),
+        (
+            "insert 4 b\ndelete 11 1\nreplace 3 1 -",
+            "replace|4|0|b|\nreplace|11|1||\nreplace|3|1|-|\n",
+        ),
+        (
+            "insert 0 \nreplace 0 2  a b \ninsert 1 # c",
+            "replace|0|0||\nreplace|0|2| a b |\nreplace|1|0|# c|\n",
+        ),
+        (
+            "insert 0 \\n\\r\\t\\\\\\u{41}\\u{1D11E}e\u{e9}\\u{00000a}",
+            "replace|0|0|\n\r\t\\A\u{1d11e}e\u{e9}\n|\n",
+        ),
+        ("\u{feff}first\r\n\r\n# is\r\nlast\r\n", "first\nlast\n"),
+        ("\n\n#\n", ""),
+        ("\u{feff}\u{feff}first", "BadLine 1"),
+        ("first\nlast\r\nnext\r", "BadLine 3"),
+        ("first\ninsert 0 a\r\n", "first\nreplace|0|0|a|\n"),
+        ("first\n\0\nlast", "BadLine 2"),
+        ("first\n\u{feff}last", "BadLine 2"),
+        ("\u{feff}", ""),
+    ];
+    for (script, wanted) in rows {
+        assert_eq!(rt;
+            read(alloc, script.as_bytes())?.as_str(),
+            wanted,
+            "of {script:?}"
+        );
+    }
+    Ok(())
+}
+
+#[test]
+fn bytes_that_are_no_text(rt: HostRuntime) -> Result<(), Fail> {
+    let rows: [&[u8]; 2] = [b"first\n\xFFlast", b"?\ntext\xE2\x82"];
+    for bytes in rows {
+        assert_eq!(rt; read(rt.alloc(), bytes)?.as_str(), "NotUtf8 6");
+    }
+    Ok(())
+}
+
+#[test]
+fn bad_lines(rt: HostRuntime) -> Result<(), Fail> {
+    let alloc = rt.alloc();
+    let bad = [
+        " first",
+        "first ",
+        "First",
+        "is",
+        "is ",
+        "is  1",
+        "is 1 ",
+        "is +1",
+        "is 4294967296",
+        "is 99999999999999999999",
+        "is x",
+        "following",
+        "preceding -1",
+        "insert",
+        "insert 0",
+        "insert  0 a",
+        "insert x a",
+        "insert 4294967296 a",
+        "delete 0",
+        "delete 0 ",
+        "delete 0 1 ",
+        "delete 0 4294967296",
+        "replace 0 1",
+        "replace 0 x a",
+        "replace 0  1 a",
+        "insert 0 \\",
+        "insert 0 \\x",
+        "insert 0 \\u{}",
+        "insert 0 \\u{0000041}",
+        "insert 0 \\u{D800}",
+        "insert 0 \\u{110000}",
+        "insert 0 \\u{41",
+        "insert 0 \\u41",
+        "insert 0 \\u{g}",
+        " # a",
+        "delete\t0 1",
+        "\u{a0}",
+        "text\0",
+        "\rfirst",
+        "fi\rst",
+        "text text",
+        "following 4294967296",
+        "preceding 4294967296",
+        "delete 4294967296 0",
+        "replace 4294967296 0 a",
+        "replace 0 4294967296 a",
+        "insert 0 \\u{DFFF}",
+        "insert 0 a\\",
+    ];
+    for line in bad {
+        for (before, number) in [("", 1), ("first\n#\n", 3)] {
+            for after in ["", "\nlast\n", "\r\n \n"] {
+                let script = format!(in alloc; "{before}{line}{after}")?;
+                let wanted = format!(in alloc; "BadLine {number}")?;
+                assert_eq!(rt;
+                    read(alloc, script.as_bytes())?.as_str(),
+                    wanted.as_str(),
+                    "of {script:?}"
+                );
+            }
+        }
+    }
+    Ok(())
+}
+
+/// Asserts that the line of `said` is this.
+fn says(rt: &impl Abort, alloc: Global, said: Said, line: &str) -> Result<(), AllocError> {
+    let mut reply = Vec::from_slice(alloc, b"=")?;
+    say(said, &mut reply)?;
+    assert_eq!(rt;
+        reply.as_slice(),
+        format!(in alloc; "={line}\n")?.as_bytes()
+    );
+    Ok(())
+}
+
+#[test]
+fn lines_of_replies(rt: HostRuntime) -> Result<(), Fail> {
+    let rows: [(Said, &str); 9] = [
+        (Said::Place(0), "0"),
+        (Said::Done, "done"),
+        (Said::Yes, "yes"),
+        (Said::No, "no"),
+        (Said::Number(4_294_967_295), "4294967295"),
+        (Said::Edited(11), "ok 11"),
+        (Said::Outside, "outside"),
+        (Said::Inside, "inside"),
+        (Said::TooLong, "toolong"),
+    ];
+    for (said, line) in rows {
+        says(&rt, rt.alloc(), said, line)?;
+    }
+    Ok(())
+}
+
+#[test]
+fn lines_of_lists(rt: HostRuntime) -> Result<(), Fail> {
+    let mut reply = Vec::new(rt.alloc());
+    say_list(&[3, 5], &mut reply)?;
+    say_list(&[0], &mut reply)?;
+    say_bound(10, &[100, 200], &mut reply)?;
+    assert_eq!(rt; reply.as_slice(), b"3,5\n0\n10 100,200\n".as_slice());
+    Ok(())
+}
