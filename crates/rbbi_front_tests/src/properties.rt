@@ -1,5 +1,7 @@
 //! Tables of cases by hand: lines of property files, and each line of the table of look-ups.
 use rbbi_props::{PropErr, PropTable, are_alike, push_common_form};
+use std::alloc::Global;
+use std::process::Abort;
 use std::test::Fail;
 
 /// Grapheme clusters, an extract in the form of the Unicode Character Database.
@@ -17,13 +19,13 @@ const GRAPHEMES: &str = "# an extract
 type Found = Option<&'static [(u32, u32)]>;
 
 fn is_found(
-    rt: &HostRuntime,
+    alloc: Global,
     table: &PropTable,
     name: &str,
     value: Option<&str>,
     want: Found,
 ) -> Result<bool, Fail> {
-    let found = table.lookup(rt.alloc(), name, value)?;
+    let found = table.lookup(alloc, name, value)?;
     let Some(set) = &found else {
         return Ok(want.is_none());
     };
@@ -56,9 +58,9 @@ fn is_refused(table: &mut PropTable, bytes: &[u8], label: &str, place: Option<u3
 type LookUp = (&'static str, Option<&'static str>, Found);
 
 /// Asks a table for each name and value.
-fn check(rt: &HostRuntime, table: &PropTable, cases: &[LookUp]) -> Result<(), Fail> {
+fn check(rt: &impl Abort, alloc: Global, table: &PropTable, cases: &[LookUp]) -> Result<(), Fail> {
     for (name, value, want) in cases {
-        assert!(rt; is_found(rt, table, name, *value, *want)?, "{name}");
+        assert!(rt; is_found(alloc, table, name, *value, *want)?, "{name}");
     }
     Ok(())
 }
@@ -82,7 +84,7 @@ fn files_and_their_values(rt: HostRuntime) -> Result<(), Fail> {
         ("CR", None, None),
         ("WB", Some("CR"), None),
     ];
-    check(&rt, &table, &cases)
+    check(&rt, rt.alloc(), &table, &cases)
 }
 
 const SPACES: Found = Some(&[
@@ -124,7 +126,7 @@ fn names_of_the_database(rt: HostRuntime) -> Result<(), Fail> {
         ("no such", None, None),
         ("Line_Break", Some("Zs"), None),
     ];
-    check(&rt, &PropTable::new(rt.alloc()), &cases)
+    check(&rt, rt.alloc(), &PropTable::new(rt.alloc()), &cases)
 }
 
 /// A file under the name of the general category is asked first, and only for what it has.
@@ -137,7 +139,7 @@ fn files_before_the_database(rt: HostRuntime) -> Result<(), Fail> {
         ("Zs", None, SPACES),
         ("gc", Some("Zl"), Some(&[(0x2028, 0x2028)])),
     ];
-    check(&rt, &table, &cases)
+    check(&rt, rt.alloc(), &table, &cases)
 }
 
 #[test]
@@ -162,7 +164,10 @@ fn lines_that_are_rows(rt: HostRuntime) -> Result<(), Fail> {
     for (text, want) in cases {
         let mut table = PropTable::new(rt.alloc());
         table.add("P", text.as_bytes())?;
-        assert!(rt; is_found(&rt, &table, "p", Some("v"), want)?, "{text}");
+        assert!(rt;
+            is_found(rt.alloc(), &table, "p", Some("v"), want)?,
+            "{text}"
+        );
     }
     Ok(())
 }
@@ -203,7 +208,7 @@ fn refusals(rt: HostRuntime) -> Result<(), Fail> {
             is_refused(&mut table, bytes, label, *place),
             "case {number}"
         );
-        assert!(rt; is_found(&rt, &table, "P", Some("V"), Some(&[(0x41, 0x41)]))?);
+        assert!(rt; is_found(rt.alloc(), &table, "P", Some("V"), Some(&[(0x41, 0x41)]))?);
     }
     assert_eq!(rt; PropErr::Memory.label(), "Memory");
     assert_eq!(rt; PropErr::Memory.place(), None);

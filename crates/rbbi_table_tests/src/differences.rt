@@ -16,7 +16,7 @@ fn words_that_tell_tables_apart(rt: HostRuntime) -> Result<(), Fail> {
         ..A
     };
     let many = Sample {
-        cells: [0, 0, 0, 2, 0, 2],
+        cells: &[0, 0, 0, 2, 0, 2],
         ..A
     };
     let far = Sample {

@@ -73,11 +73,7 @@ fn parts_of(alloc: Global, sample: &Sample) -> Result<Parts, AllocError> {
     })
 }
 
-pub(crate) fn table_of(
-    rt: &impl Abort,
-    alloc: Global,
-    sample: &Sample,
-) -> Result<Table, TableErr> {
+pub(crate) fn table_of(rt: &impl Abort, alloc: Global, sample: &Sample) -> Result<Table, TableErr> {
     let parts = parts_of(alloc, sample)?;
     let width = parts.categories as usize;
     assert!(rt; parts.rows.len() < 65536);
