@@ -17,8 +17,6 @@ mod real_draft;
 mod real_files;
 mod real_sink;
 mod sink;
-#[cfg(test)]
-mod tests;
 
 pub use calm_files::CalmFiles;
 pub use calm_sink::CalmSink;

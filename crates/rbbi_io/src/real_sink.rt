@@ -30,13 +30,6 @@ impl<W: Write> RealSink<W> {
     {
         RealSink { out, faults: 0 }
     }
-
-    /// The writer.
-    #[cfg(test)]
-    pub(crate) fn into_writer(self) -> W {
-        let RealSink { out, faults: _ } = self;
-        out
-    }
 }
 
 /// Writes a front of a piece that is not empty. A write that takes nothing is a fault.

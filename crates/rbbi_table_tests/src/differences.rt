@@ -24,14 +24,14 @@ fn words_that_tell_tables_apart(rt: HostRuntime) -> Result<(), Fail> {
         ..A
     };
     for (this, that, wanted) in [
-        (A, A, None),
-        (A, marked, Some("a")),
-        (both, A, Some("b")),
-        (many, A, Some("aa")),
-        (A, far, Some("a")),
+        (&A, &A, None),
+        (&A, &marked, Some("a")),
+        (&both, &A, Some("b")),
+        (&many, &A, Some("aa")),
+        (&A, &far, Some("a")),
     ] {
-        let these = table_of(&rt, alloc, &this)?;
-        let those = table_of(&rt, alloc, &that)?;
+        let these = table_of(&rt, alloc, this)?;
+        let those = table_of(&rt, alloc, that)?;
         let found = differ(alloc, &these, &those)?;
         match &found {
             Some(word) => assert_eq!(rt; Some(word.as_str()), wanted),

@@ -78,27 +78,33 @@ fn finds(
 }
 
 #[test]
-fn boundaries(rt: HostRuntime) -> Result<(), Fail> {
+fn one_rule(rt: HostRuntime) -> Result<(), Fail> {
+    finds(&rt, &rt, &A, "ab", &[1, 0, 2, 2, 0, 2])?;
     let unused = Sample { slashes: 1, ..A };
+    finds(&rt, &rt, &unused, "ab", &[1, 0, 2, 2, 0, 2])?;
     let chained = Sample {
         cells: &[0, 0, 0, 2, 0, 2],
         ..A
     };
-    let rows: [(Sample, &str, &[u32]); 7] = [
-        (A, "ab", &[1, 0, 2, 2, 0, 2]),
-        (unused, "ab", &[1, 0, 2, 2, 0, 2]),
-        (chained, "aab", &[2, 0, 3, 3, 0, 3]),
-        // Two look-ahead rules.
-        (BOTH, "abac", &[1, 1, 2, 2, 0, 2, 3, 0, 4, 4, 0, 4]),
-        (BOTH, "aab", &[1, 0, 2, 2, 1, 3, 3, 0, 3]),
-        // A front that ends often.
-        (MANY, "aaab", &[3, 0, 4, 4, 0, 4]),
-        (MANY, "aa", &[1, 0, 3, 2, 0, 3]),
-    ];
-    for (sample, text, wanted) in &rows {
-        finds(&rt, &rt, sample, text, wanted)?;
-    }
-    Ok(())
+    finds(&rt, &rt, &chained, "aab", &[2, 0, 3, 3, 0, 3])
+}
+
+#[test]
+fn two_look_ahead_rules(rt: HostRuntime) -> Result<(), Fail> {
+    finds(
+        &rt,
+        &rt,
+        &BOTH,
+        "abac",
+        &[1, 1, 2, 2, 0, 2, 3, 0, 4, 4, 0, 4],
+    )?;
+    finds(&rt, &rt, &BOTH, "aab", &[1, 0, 2, 2, 1, 3, 3, 0, 3])
+}
+
+#[test]
+fn a_front_that_ends_often(rt: HostRuntime) -> Result<(), Fail> {
+    finds(&rt, &rt, &MANY, "aaab", &[3, 0, 4, 4, 0, 4])?;
+    finds(&rt, &rt, &MANY, "aa", &[1, 0, 3, 2, 0, 3])
 }
 
 /// Whether these parts are refused by this name.
@@ -114,88 +120,71 @@ fn is_refused(rt: &impl Abort, alloc: Global, sample: &Sample, label: &str) -> R
 }
 
 #[test]
-fn refused_parts(rt: HostRuntime) -> Result<(), Fail> {
-    let rows: [(Sample, &str); 11] = [
-        // One category twice.
-        (
-            Sample {
-                ranges: &[(0, 0), (0x61, 0), (0x62, 0)],
-                ..A
-            },
-            "BadRanges",
-        ),
-        // A late start.
-        (
-            Sample {
-                ranges: &[(1, 0), (0x61, 1), (0x62, 0)],
-                ..A
-            },
-            "BadRanges",
-        ),
-        (
-            Sample {
-                lists: &[&[1]],
-                ..A
-            },
-            "BadLists",
-        ),
-        // A cell with no row.
-        (
-            Sample {
-                cells: &[0, 0, 0, 3, 0, 0],
-                ..A
-            },
-            "BadRows",
-        ),
-        // An early end.
-        (
-            Sample {
-                rows: &[(0, 0, 0), (1, 0, 0), (1, 0, 0)],
-                ..A
-            },
-            "BadRows",
-        ),
-        // No look-ahead rule.
-        (
-            Sample {
-                rows: &[(0, 0, 0), (0, 0, 0), (2, 0, 0)],
-                ..A
-            },
-            "BadRows",
-        ),
-        // No front.
-        (
-            Sample {
-                slashes: 1,
-                rows: &[(0, 0, 0), (0, 0, 0), (2, 0, 0)],
-                ..A
-            },
-            "BadFronts",
-        ),
-        // The front of the second look-ahead rule doesn't end after `a`.
-        (
-            Sample {
-                rows: &[(0, 0, 0), (0, 0, 0), (0, 1, 0), (2, 0, 1), (3, 0, 0)],
-                ..BOTH
-            },
-            "BadFronts",
-        ),
-        // Too few safe pairs, and too many.
-        (Sample { safe: &[0x0E], ..A }, "BadSafe"),
-        (Sample { safe: &[0x1F], ..A }, "BadSafe"),
-        // From row 1 alone each pair would be safe.
-        (
-            Sample {
-                safe: &[0xFF, 0xFF],
-                ..BOTH
-            },
-            "BadSafe",
-        ),
-    ];
-    for (sample, label) in &rows {
-        is_refused(&rt, rt.alloc(), sample, label)?;
-    }
-    Ok(())
+fn bad_ranges_and_lists(rt: HostRuntime) -> Result<(), Fail> {
+    let one_category = Sample {
+        ranges: &[(0, 0), (0x61, 0), (0x62, 0)],
+        ..A
+    };
+    is_refused(&rt, rt.alloc(), &one_category, "BadRanges")?;
+    let late_start = Sample {
+        ranges: &[(1, 0), (0x61, 1), (0x62, 0)],
+        ..A
+    };
+    is_refused(&rt, rt.alloc(), &late_start, "BadRanges")?;
+    let other_list = Sample {
+        lists: &[&[1]],
+        ..A
+    };
+    is_refused(&rt, rt.alloc(), &other_list, "BadLists")
+}
+
+#[test]
+fn bad_rows(rt: HostRuntime) -> Result<(), Fail> {
+    let no_row = Sample {
+        cells: &[0, 0, 0, 3, 0, 0],
+        ..A
+    };
+    is_refused(&rt, rt.alloc(), &no_row, "BadRows")?;
+    let early_end = Sample {
+        rows: &[(0, 0, 0), (1, 0, 0), (1, 0, 0)],
+        ..A
+    };
+    is_refused(&rt, rt.alloc(), &early_end, "BadRows")?;
+    let no_look_ahead = Sample {
+        rows: &[(0, 0, 0), (0, 0, 0), (2, 0, 0)],
+        ..A
+    };
+    is_refused(&rt, rt.alloc(), &no_look_ahead, "BadRows")
+}
+
+#[test]
+fn bad_fronts(rt: HostRuntime) -> Result<(), Fail> {
+    let no_front = Sample {
+        slashes: 1,
+        rows: &[(0, 0, 0), (0, 0, 0), (2, 0, 0)],
+        ..A
+    };
+    is_refused(&rt, rt.alloc(), &no_front, "BadFronts")?;
+    // The front of the second look-ahead rule doesn't end after `a`.
+    let one_front = Sample {
+        rows: &[(0, 0, 0), (0, 0, 0), (0, 1, 0), (2, 0, 1), (3, 0, 0)],
+        ..BOTH
+    };
+    is_refused(&rt, rt.alloc(), &one_front, "BadFronts")
+}
+
+#[test]
+fn bad_safe_pairs(rt: HostRuntime) -> Result<(), Fail> {
+    let too_few = Sample { safe: &[0x0E], ..A };
+    is_refused(&rt, rt.alloc(), &too_few, "BadSafe")?;
+    let too_many = Sample { safe: &[0x1F], ..A };
+    is_refused(&rt, rt.alloc(), &too_many, "BadSafe")?;
+    // From row 1 alone each pair would be safe.
+    let each = Sample {
+        safe: &[0xFF, 0xFF],
+        ..BOTH
+    };
+    is_refused(&rt, rt.alloc(), &each, "BadSafe")
 }
 
 #[test]

@@ -1,9 +1,7 @@
 //! Each public call once, calls that fail in mid-stream, and the system's files and writers.
 ghost use Rattle.std.specs.Prelude.{◌≡◌, ◌<◌};
 
-use crate::draft::{Draft, replace};
-use crate::real_draft::write_to;
-use crate::{
+use rbbi_io::{
     CalmFiles, CalmSink, Files, MemFiles, MemSink, ReadErr, RealFiles, RealSink, Sink, WriteErr,
     put_all, put_when_full, read_at_most,
 };
@@ -30,60 +28,99 @@ fn bytes_of(rt: &HostRuntime, raw: &Raw) -> Result<Vec<u8>, AllocError> {
     copied::<Brand>(rt, raw, Blank::new(1))
 }
 
+/// A name of the answer to a write.
+fn label_of(answer: &Result<(), WriteErr>) -> &str {
+    match answer {
+        Ok(()) => "Ok",
+        Err(refusal) => refusal.label(),
+    }
+}
+
+/// What is read, or the name of the refusal.
+fn read<F: Files>(
+    rt: &HostRuntime,
+    files: &mut F,
+    name: &str,
+    limit: u64,
+) -> Result<Vec<u8>, AllocError> {
+    match files.read(rt.alloc(), name, limit) {
+        Ok(raw) => bytes_of(rt, &raw),
+        Err(refusal) => Vec::from_slice(rt.alloc(), refusal.label().as_bytes()),
+    }
+}
+
 #[test]
 fn files_in_memory(rt: HostRuntime) -> Result<(), Fail> {
-    let alloc = rt.alloc();
-    let mut files = MemFiles::new(alloc);
-    files.add("a", b"one")?;
-    files.add("b", b"")?;
-    files.add("a", b"three")?;
-    assert_eq!(rt; files.get("a"), Some(b"three".as_slice()));
-    assert_eq!(rt; files.get("c"), None);
-    files.write("c", b"two")?;
-    files.write("b", b"four")?;
-    for (name, bytes) in [("a", b"three".as_slice()), ("b", b"four"), ("c", b"two")] {
-        let raw = files.read(alloc, name, bytes.len() as u64)?;
-        assert_eq!(rt; bytes_of(&rt, &raw)?.as_slice(), bytes, "of {name}");
+    let mut files = MemFiles::new(rt.alloc());
+    for (name, bytes) in [("a", "one"), ("b", ""), ("a", "three")] {
+        files.add(name, bytes.as_bytes())?;
     }
-    assert!(rt; matches!(files.read(alloc, "a", 4), Err(ReadErr::TooLong)));
-    assert!(rt; matches!(files.read(alloc, "d", 4), Err(ReadErr::Failed)));
+    for (name, bytes) in [("c", "two"), ("b", "four")] {
+        files.write(name, bytes.as_bytes())?;
+    }
+    for (name, limit, wanted) in [
+        ("a", 5, "three"),
+        ("b", 4, "four"),
+        ("c", 3, "two"),
+        ("a", 4, "TooLong"),
+        ("d", 4, "Failed"),
+    ] {
+        assert_eq!(rt;
+            read(&rt, &mut files, name, limit)?.as_slice(),
+            wanted.as_bytes()
+        );
+    }
+    assert_eq!(rt; files.get("d"), None);
     assert_eq!(rt; files.calls(), 7);
     Ok(())
 }
 
 #[test]
 fn calls_that_fail(rt: HostRuntime) -> Result<(), Fail> {
-    let alloc = rt.alloc();
-    let mut files = MemFiles::new(alloc);
+    let mut files = MemFiles::new(rt.alloc());
     files.add("a", b"one")?;
     files.fail_at(2)?;
     files.fail_at(4)?;
-    assert!(rt; files.read(alloc, "a", 9).is_ok());
-    assert!(rt; matches!(files.read(alloc, "a", 9), Err(ReadErr::Failed)));
-    assert!(rt; files.read(alloc, "a", 9).is_ok());
-    assert!(rt; matches!(files.write("a", b"two"), Err(WriteErr::Failed)));
-    assert!(rt; files.write("b", b"two").is_ok());
-    assert_eq!(rt; files.get("a"), Some(b"one".as_slice()));
+    for wanted in ["one", "Failed", "one"] {
+        assert_eq!(rt;
+            read(&rt, &mut files, "a", 9)?.as_slice(),
+            wanted.as_bytes()
+        );
+    }
+    for (name, wanted) in [("a", "Failed"), ("b", "Ok")] {
+        assert_eq!(rt; label_of(&files.write(name, b"two")), wanted);
+    }
+    for (name, bytes) in [("a", "one"), ("b", "two")] {
+        assert_eq!(rt; files.get(name), Some(bytes.as_bytes()));
+    }
+    assert_eq!(rt; files.calls(), 5);
+    Ok(())
+}
+
+#[test]
+fn files_that_never_fail(rt: HostRuntime) -> Result<(), Fail> {
+    let mut files = CalmFiles::new(rt.alloc());
+    files.add("a", b"one")?;
+    files.write("b", b"two")?;
+    for (name, limit, wanted) in [
+        ("a", 3, "one"),
+        ("b", 3, "two"),
+        ("c", 0, ""),
+        ("a", 2, "TooLong"),
+    ] {
+        assert_eq!(rt;
+            read(&rt, &mut files, name, limit)?.as_slice(),
+            wanted.as_bytes()
+        );
+    }
     assert_eq!(rt; files.get("b"), Some(b"two".as_slice()));
     assert_eq!(rt; files.calls(), 5);
     Ok(())
 }
 
 #[test]
-fn calls_that_never_fail(rt: HostRuntime) -> Result<(), Fail> {
-    let alloc = rt.alloc();
-    let mut files = CalmFiles::new(alloc);
-    files.add("a", b"one")?;
-    files.write("b", b"two")?;
-    for (name, bytes) in [("a", b"one".as_slice()), ("b", b"two"), ("c", b"")] {
-        let raw = files.read(alloc, name, bytes.len() as u64)?;
-        assert_eq!(rt; bytes_of(&rt, &raw)?.as_slice(), bytes, "of {name}");
-    }
-    assert!(rt; matches!(files.read(alloc, "a", 2), Err(ReadErr::TooLong)));
-    assert_eq!(rt; files.get("b"), Some(b"two".as_slice()));
-    assert_eq!(rt; files.get("c"), None);
-    assert_eq!(rt; files.calls(), 5);
-    let mut sink = CalmSink::new(alloc);
+fn puts_that_never_fail(rt: HostRuntime) -> Result<(), Fail> {
+    let mut sink = CalmSink::new(rt.alloc());
     put_all(&mut sink, b"ab")?;
     put_all(&mut sink, b"cd")?;
     assert_eq!(rt; sink.taken(), b"abcd".as_slice());
@@ -114,7 +151,7 @@ fn output_in_pieces(rt: HostRuntime) -> Result<(), Fail> {
         assert_eq!(rt; sink.taken().len(), taken);
     }
     made.resize(70_000, b'x')?;
-    assert!(rt; matches!(put_when_full(&mut sink, &mut made), Err(WriteErr::Failed)));
+    assert_eq!(rt; label_of(&put_when_full(&mut sink, &mut made)), "Failed");
     assert_eq!(rt; sink.calls(), 4);
     Ok(())
 }
@@ -123,10 +160,9 @@ fn output_in_pieces(rt: HostRuntime) -> Result<(), Fail> {
 fn puts_that_fail(rt: HostRuntime) -> Result<(), Fail> {
     let mut sink = MemSink::new(rt.alloc());
     sink.fail_at(2)?;
-    assert!(rt; put_all(&mut sink, b"ab").is_ok());
-    assert!(rt; matches!(put_all(&mut sink, b"cd"), Err(WriteErr::Failed)));
-    assert!(rt; put_all(&mut sink, b"").is_ok());
-    assert!(rt; put_all(&mut sink, b"ef").is_ok());
+    for (piece, wanted) in [("ab", "Ok"), ("cd", "Failed"), ("", "Ok"), ("ef", "Ok")] {
+        assert_eq!(rt; label_of(&put_all(&mut sink, piece.as_bytes())), wanted);
+    }
     assert_eq!(rt; sink.taken(), b"abef".as_slice());
     assert_eq!(rt; sink.calls(), 3);
     Ok(())
@@ -184,14 +220,6 @@ impl Write for Told {
     }
 }
 
-/// A name of the answer to a write.
-fn label_of(answer: &Result<(), WriteErr>) -> &str {
-    match answer {
-        Ok(()) => "Ok",
-        Err(refusal) => refusal.label(),
-    }
-}
-
 #[test]
 fn writers_as_sinks(rt: HostRuntime) -> Result<(), Fail> {
     let alloc = rt.alloc();
@@ -214,19 +242,24 @@ fn writers_as_sinks(rt: HostRuntime) -> Result<(), Fail> {
         (&[None, Some(1)], ErrorKind::OutOfMemory, "Memory", b"a"),
     ];
     for (answers, fault, wanted, taken) in rows {
-        let mut sink = RealSink::new(Told::new(alloc, answers, fault)?);
-        let answer = put_all(&mut sink, b"abcdef");
+        let mut writer = Told::new(alloc, answers, fault)?;
+        let answer = put_all(&mut RealSink::new(&mut writer), b"abcdef");
         assert_eq!(rt; label_of(&answer), wanted);
-        assert_eq!(rt; sink.into_writer().taken.as_slice(), taken);
+        assert_eq!(rt; writer.taken.as_slice(), taken);
     }
-    // an empty piece asks nothing of the writer
-    let mut sink = RealSink::new(Told::new(alloc, &[None], ErrorKind::Other)?);
+    Ok(())
+}
+
+/// An empty piece asks nothing of the writer.
+#[test]
+fn empty_pieces(rt: HostRuntime) -> Result<(), Fail> {
+    let mut sink = RealSink::new(Told::new(rt.alloc(), &[None], ErrorKind::Other)?);
     assert!(rt; matches!(sink.put(b""), Ok(0)));
     assert!(rt; matches!(sink.put(b"a"), Err(WriteErr::Failed)));
     Ok(())
 }
 
-/// An open file that gives and takes its bytes in pieces, is interrupted, or fails in the middle.
+/// An open file that gives its bytes in pieces, is interrupted, or fails in the middle.
 #[test]
 fn open_files(rt: HostRuntime) -> Result<(), Fail> {
     let alloc = rt.alloc();
@@ -252,126 +285,27 @@ fn open_files(rt: HostRuntime) -> Result<(), Fail> {
             Err(refusal) => assert_eq!(rt; refusal.label(), wanted),
         }
     }
-    // once it is open, all that goes wrong is a fault, as on a full device
-    let writes: [(&[Option<usize>], ErrorKind, &str); 4] = [
-        (&[Some(9), Some(2)], ErrorKind::Other, "Ok"),
-        (&[Some(9), None, Some(2)], ErrorKind::Interrupted, "Ok"),
-        (&[None, Some(2)], ErrorKind::StorageFull, "Failed"),
-        (&[None, Some(2)], ErrorKind::OutOfMemory, "Failed"),
-    ];
-    for (answers, fault, wanted) in writes {
-        let mut file = Told::new(alloc, answers, fault)?;
-        assert_eq!(rt; label_of(&write_to(&mut file, b"abcdef")), wanted);
-    }
-    Ok(())
-}
-
-/// A draft in memory. Its calls are counted from 1, and those from `fails` up to `works` fail.
-#[derive(Drop)]
-struct ToldDraft {
-    drafted: Vec<u8>,
-    held: Vec<u8>,
-    is_synced: bool,
-    is_there: bool,
-    calls: u64,
-    fails: u64,
-    works: u64,
-}
-
-impl ToldDraft {
-    /// Counts a call, and tells whether it fails.
-    fn call(&mut self) -> io::Result<()>
-        ensures drafted { self.new.drafted ≡ self.old.drafted }
-        ensures held { self.new.held ≡ self.old.held }
-    {
-        self.calls = self.calls.saturating_add(1);
-        if self.fails <= self.calls && self.calls < self.works {
-            return Err(io::Error::from(ErrorKind::Other));
-        }
-        Ok(())
-    }
-}
-
-impl Draft for ToldDraft {
-    ghost use Rattle.std.specs.Prelude.{Some, IsTrue};
-
-    ghost drafted = { λ draft. Some draft.drafted.items };
-
-    ghost held = { λ draft. Some draft.held.items };
-
-    ghost is_synced = { λ draft. IsTrue draft.is_synced };
-
-    fn write(&mut self, bytes: &[u8]) -> io::Result<()> {
-        self.call()?;
-        self.is_synced = false;
-        self.drafted.extend_from_slice(bytes)?;
-        Ok(())
-    }
-
-    fn sync(&mut self) -> io::Result<()> {
-        self.call()?;
-        self.is_synced = true;
-        Ok(())
-    }
-
-    fn rename(&mut self) -> io::Result<()> {
-        self.call()?;
-        self.held = self.drafted.clone()?;
-        self.is_there = false;
-        Ok(())
-    }
-
-    fn remove(&mut self) {
-        if self.call().is_ok() {
-            self.is_there = false;
-        }
-    }
-}
-
-/// Whatever step fails, alone or with all behind it, as where a run is killed, the old bytes stay.
-#[test]
-fn drafts_that_fail(rt: HostRuntime) -> Result<(), Fail> {
-    let never = u64::MAX;
-    for (fails, works, held, is_there) in [
-        (never, never, "new", false),
-        (1, 2, "old", false),
-        (2, 3, "old", false),
-        (3, 4, "old", false),
-        (1, never, "old", true),
-        (2, never, "old", true),
-        (3, never, "old", true),
-    ] {
-        let mut draft = ToldDraft {
-            drafted: Vec::new(rt.alloc()),
-            held: b"old".to_vec(rt.alloc())?,
-            is_synced: false,
-            is_there: true,
-            calls: 0,
-            fails,
-            works,
-        };
-        let outcome = replace(&mut draft, b"new");
-        assert_eq!(rt; outcome.is_ok(), fails == never);
-        assert_eq!(rt; draft.held.as_slice(), held.as_bytes());
-        assert_eq!(rt; draft.is_there, is_there);
-    }
     Ok(())
 }
 
 #[test]
 fn files_of_the_system(rt: HostRuntime) -> Result<(), Fail> {
-    let alloc = rt.alloc();
     let name = "rbbi_io_real_files.tmp";
-    let mut bytes = Vec::new(alloc);
-    bytes.resize(600_000, b'x')?;
+    let bytes = "x".repeat(rt.alloc(), 600_000)?;
     let mut files = RealFiles::new(&rt);
     files.write(name, b"longer than the next")?;
-    files.write(name, bytes.as_slice())?;
-    let raw = files.read(alloc, name, 600_000)?;
-    assert_eq!(rt; bytes_of(&rt, &raw)?.as_slice(), bytes.as_slice());
-    assert!(rt; matches!(files.read(alloc, name, 599_999), Err(ReadErr::TooLong)));
-    assert!(rt; matches!(files.read(alloc, "no/such/file", 9), Err(ReadErr::Failed)));
-    assert!(rt; matches!(files.write("no/such/file", b"a"), Err(WriteErr::Failed)));
+    files.write(name, bytes.as_bytes())?;
+    for (name, limit, wanted) in [
+        (name, 600_000, bytes.as_str()),
+        (name, 599_999, "TooLong"),
+        ("no/such/file", 9, "Failed"),
+    ] {
+        assert_eq!(rt;
+            read(&rt, &mut files, name, limit)?.as_slice(),
+            wanted.as_bytes()
+        );
+    }
+    assert_eq!(rt; label_of(&files.write("no/such/file", b"a")), "Failed");
     assert!(rt; !std::fs::exists(&rt, "rbbi_io_real_files.tmp.rbbi-0")?);
     std::fs::remove_file(&rt, name)?;
     Ok(())
@@ -391,11 +325,14 @@ fn a_file_as_a_sink(rt: HostRuntime) -> Result<(), Fail> {
 
 #[test]
 fn names_of_refusals(rt: HostRuntime) {
-    assert_eq!(rt; ReadErr::Failed.label(), "Failed");
-    assert_eq!(rt; ReadErr::TooLong.label(), "TooLong");
-    assert_eq!(rt; ReadErr::Memory.label(), "Memory");
-    assert_eq!(rt; ReadErr::Failed.place(), None);
-    assert_eq!(rt; WriteErr::Failed.label(), "Failed");
+    for (refusal, label) in [
+        (ReadErr::Failed, "Failed"),
+        (ReadErr::TooLong, "TooLong"),
+        (ReadErr::Memory, "Memory"),
+    ] {
+        assert_eq!(rt; refusal.label(), label);
+        assert_eq!(rt; refusal.place(), None);
+    }
     assert_eq!(rt; WriteErr::Memory.label(), "Memory");
     assert_eq!(rt; WriteErr::Memory.place(), None);
 }
