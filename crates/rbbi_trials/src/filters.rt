@@ -299,6 +299,48 @@ fn first_other<W: Walk, L: Ledger>(
     Ok(None)
 }
 
+/// The commands of a random script.
+fn drawn_commands(
+    alloc: Global,
+    draws: &mut Draws,
+    alphabet: &[char],
+) -> Result<Option<Commands>, Fail> {
+    let script = drawn_script(alloc, draws, alphabet)?;
+    if script.len() > MOST_BYTES {
+        return Ok(None);
+    }
+    Ok(Some(read_script(alloc, script.as_bytes())?))
+}
+
+/// The number of the first command, from 0, to which the session of the model's filter, whose file
+/// this is, replies otherwise than the model.
+fn first_other_of_filter<L: Ledger>(
+    alloc: Global,
+    text: Pieces,
+    file: &[u8],
+    model: &mut Model<'_>,
+    commands: &Commands,
+    steps: &mut Steps<L>,
+) -> Result<Option<usize>, Fail> {
+    if file.len() > MOST_BYTES {
+        return Ok(Some(0));
+    }
+    match model.plain {
+        Plain::Hiding(_) => {
+            let list = Abbreviations::read(alloc, file)?;
+            let session = Session::open(alloc, model.table, text)?;
+            let mut session = Filtered::open(session, &list, ByList::new(&list));
+            first_other(alloc, &mut session, model, commands, steps)
+        }
+        Plain::Turning(_) => {
+            let pairs = Tailoring::read(alloc, file)?;
+            let map = ByPairs::new(&pairs);
+            let mut session = Tailored::open(alloc, model.table, text, &pairs, map)?;
+            first_other(alloc, &mut session, model, commands, steps)
+        }
+    }
+}
+
 /// The number of the first command of a random script, from 0, to which the session of a filter
 /// replies otherwise than the model.
 fn first_other_of_script<L: Ledger>(
@@ -316,34 +358,26 @@ fn first_other_of_script<L: Ledger>(
     let (alphabet, plain, file) = row;
     let mut steps = Steps::<L>::new(rt, blank);
     let mut draws = Draws::new(seed);
-    let letters = draws.text(alloc, alphabet, LENGTH)?;
-    let script = drawn_script(alloc, &mut draws, alphabet)?;
-    let (script, file) = (script.as_bytes(), file.as_bytes());
-    if script.len() > MOST_BYTES || file.len() > MOST_BYTES {
+    let drawn = draws.text(alloc, alphabet, LENGTH)?;
+    let Some(commands) = drawn_commands(alloc, &mut draws, alphabet)? else {
         return Ok(Some(0));
-    }
-    let commands = read_script(alloc, script)?;
-    let text = Pieces::new(alloc, letters.as_str())?;
+    };
+    let text = Pieces::new(alloc, drawn.as_str())?;
+    let letters = drawn.chars().collect(alloc)?;
     let mut model = Model {
         table,
         plain,
-        letters: letters.chars().collect(alloc)?,
+        letters,
         cursor: 0,
     };
-    match plain {
-        Plain::Hiding(_) => {
-            let list = Abbreviations::read(alloc, file)?;
-            let session = Session::open(alloc, table, text)?;
-            let mut session = Filtered::open(session, &list, ByList::new(&list));
-            first_other(alloc, &mut session, &mut model, &commands, &mut steps)
-        }
-        Plain::Turning(_) => {
-            let pairs = Tailoring::read(alloc, file)?;
-            let map = ByPairs::new(&pairs);
-            let mut session = Tailored::open(alloc, table, text, &pairs, map)?;
-            first_other(alloc, &mut session, &mut model, &commands, &mut steps)
-        }
-    }
+    first_other_of_filter(
+        alloc,
+        text,
+        file.as_bytes(),
+        &mut model,
+        &commands,
+        &mut steps,
+    )
 }
 
 #[test]

@@ -79,25 +79,31 @@ fn holds(files: &MemFiles, name: &str, bytes: &[u8]) -> bool {
     }
 }
 
-/// The table file is written before the line, and not at all behind a fault.
+/// The table file is written, and not at all behind a fault.
 #[test]
 fn files(rt: HostRuntime) -> Result<(), Fail> {
-    let mut files = files_of(&rt, &[("r.txt", b"a;")])?;
-    run_words(&rt, "compile r.txt b.tbl", &mut files)?;
-    assert_eq!(rt; files.get("b.tbl"), Some(TABLE));
-    let mut files = files_of(&rt, &[("r.txt", b"(")])?;
-    run_words(&rt, "compile r.txt b.tbl", &mut files)?;
-    assert_eq!(rt; files.get("b.tbl"), None);
-    // a write that fails ends the run before anything goes out, and leaves the other files
-    let mut files = files_of(&rt, &[("r.txt", b"a;"), ("x.txt", b"x")])?;
+    let rows: [(&[u8], Option<&[u8]>); 2] = [(b"a;", Some(TABLE)), (b"(", None)];
+    for (rules, table) in rows {
+        let mut files = files_of(&rt, &[("r.txt", rules)])?;
+        run_words(&rt, "compile r.txt b.tbl", &mut files)?;
+        assert_eq!(rt; files.get("b.tbl"), table);
+    }
+    Ok(())
+}
+
+/// A write that fails ends the run before anything goes out, and leaves the other files.
+#[test]
+fn failed_write(rt: HostRuntime) -> Result<(), Fail> {
+    let held: [(&str, &[u8]); 2] = [("r.txt", b"a;"), ("x.txt", b"x")];
+    let mut files = files_of(&rt, &held)?;
     files.fail_at(2)?;
     let (status, out) = run_words(&rt, "compile r.txt b.tbl", &mut files)?;
     assert_eq!(rt; status, 7);
-    assert_eq!(rt; out.taken(), b"".as_slice());
     assert_eq!(rt; files.calls(), 2);
     assert_eq!(rt; out.calls(), 0);
-    assert!(rt; holds(&files, "r.txt", b"a;"));
-    assert!(rt; holds(&files, "x.txt", b"x"));
+    for (name, bytes) in held {
+        assert!(rt; holds(&files, name, bytes));
+    }
     Ok(())
 }
 
@@ -112,7 +118,7 @@ fn canonical_files(rt: HostRuntime) -> Result<(), Fail> {
     Ok(())
 }
 
-/// A file of either version is written in version 2, and a damaged one not at all.
+/// A file of either version is written in version 2.
 #[test]
 fn upgrades(rt: HostRuntime) -> Result<(), Fail> {
     let line = "categories 2 rows 3 lists 1 slashes 0 safe 4\n";
@@ -122,17 +128,16 @@ fn upgrades(rt: HostRuntime) -> Result<(), Fail> {
         assert_eq!(rt; files.get("b.tbl"), Some(TABLE));
         assert_eq!(rt; files.get("a.tbl"), Some(old));
     }
+    Ok(())
+}
+
+/// A damaged file is not written in version 2.
+#[test]
+fn damaged_file(rt: HostRuntime) -> Result<(), Fail> {
     assert!(rt; TABLE.len() == 75);
     let mut files = files_of(&rt, &[("a.tbl", &TABLE[..74])])?;
-    assert!(rt;
-        is_right(
-            &rt,
-            "upgrade a.tbl b.tbl",
-            &mut files,
-            4,
-            "table: Short 74\n"
-        )?
-    );
+    let words = "upgrade a.tbl b.tbl";
+    assert!(rt; is_right(&rt, words, &mut files, 4, "table: Short 74\n")?);
     assert_eq!(rt; files.get("b.tbl"), None);
     Ok(())
 }

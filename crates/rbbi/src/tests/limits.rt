@@ -18,28 +18,39 @@ fn chain(alloc: Global, last: u32) -> Result<String, AllocError> {
     Ok(text)
 }
 
-/// Rule files at a limit, and past it.
+/// Whether `check` answers so of these rules.
+fn is_checked(rt: &HostRuntime, rules: &str, status: u8, output: &str) -> Result<bool, AllocError> {
+    let mut files = files_of(rt, &[("r.txt", rules.as_bytes())])?;
+    is_right(rt, "check r.txt", &mut files, status, output)
+}
+
+/// Many rules.
 #[test]
 fn rule_files(rt: HostRuntime) -> Result<(), Fail> {
-    let alloc = rt.alloc();
-    for (rules, status, output) in [
-        (
-            "a;".repeat(alloc, 4096)?,
-            0,
-            "rules 4096 slashes 0 leaves 4096\n",
-        ),
-        ("a;".repeat(alloc, 4097)?, 3, "rules:1:8193: TooManyRules\n"),
-        (
-            "a/b;".repeat(alloc, 33)?,
-            3,
-            "rules:1:129: TooManySlashes\n",
-        ),
-        (chain(alloc, 127)?, 0, "rules 1 slashes 0 leaves 1\n"),
-        (chain(alloc, 128)?, 3, "rules:130:1: TooTall\n"),
+    for (rule, times, status, output) in [
+        ("a;", 4096, 0, "rules 4096 slashes 0 leaves 4096\n"),
+        ("a;", 4097, 3, "rules:1:8193: TooManyRules\n"),
+        ("a/b;", 33, 3, "rules:1:129: TooManySlashes\n"),
     ] {
-        let mut files = files_of(&rt, &[("r.txt", rules.as_bytes())])?;
+        let rules = rule.repeat(rt.alloc(), times)?;
         assert!(rt;
-            is_right(&rt, "check r.txt", &mut files, status, output)?,
+            is_checked(&rt, rules.as_str(), status, output)?,
+            "{output}"
+        );
+    }
+    Ok(())
+}
+
+/// A tall rule.
+#[test]
+fn variables_in_a_chain(rt: HostRuntime) -> Result<(), Fail> {
+    for (last, status, output) in [
+        (127, 0, "rules 1 slashes 0 leaves 1\n"),
+        (128, 3, "rules:130:1: TooTall\n"),
+    ] {
+        let rules = chain(rt.alloc(), last)?;
+        assert!(rt;
+            is_checked(&rt, rules.as_str(), status, output)?,
             "{output}"
         );
     }
@@ -91,12 +102,15 @@ fn front(bytes: &[u8], len: usize) -> &[u8] {
     bytes
 }
 
-/// Long property files, and a bad one with a rule file that is too long.
+/// A line of `#` that is longer than a property file may be.
+fn too_long(alloc: Global) -> Result<String, AllocError> {
+    "#".repeat(alloc, 4096)?.repeat(alloc, 2049)
+}
+
 #[test]
-fn property_files(rt: HostRuntime) -> Result<(), Fail> {
+fn long_property_files(rt: HostRuntime) -> Result<(), Fail> {
     let words = "check --prop A=g.txt r.txt";
-    let line = "#".repeat(rt.alloc(), 4096)?;
-    let longest = line.repeat(rt.alloc(), 2049)?;
+    let longest = too_long(rt.alloc())?;
     for row in LONG_FILES {
         let (len, rules, status, output) = *row;
         assert!(rt; len <= longest.len());
@@ -107,11 +121,16 @@ fn property_files(rt: HostRuntime) -> Result<(), Fail> {
             "of {len}: {output}"
         );
     }
-    let held = [
-        ("g.txt", b"61;x\n\xFF".as_slice()),
-        ("r.txt", longest.as_bytes()),
-    ];
+    Ok(())
+}
+
+/// A bad property file with a rule file that is too long.
+#[test]
+fn too_long_rules_first(rt: HostRuntime) -> Result<(), Fail> {
+    let rules = too_long(rt.alloc())?;
+    let held: [(&str, &[u8]); 2] = [("g.txt", b"61;x\n\xFF"), ("r.txt", rules.as_bytes())];
     let mut files = files_of(&rt, &held)?;
+    let words = "check --prop A=g.txt r.txt";
     assert!(rt; is_right(&rt, words, &mut files, 3, "rules: TooLong\n")?);
     Ok(())
 }
