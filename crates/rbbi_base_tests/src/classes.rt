@@ -1,5 +1,7 @@
 //! Partitions and sets of classes, by tables of cases by hand.
-use crate::ranges::Pairs;
+use crate::ranges::{Pairs, set_of};
+use rbbi_classes::Division;
+use std::alloc::{AllocError, Global};
 
 mod character_sets;
 mod class_sets;
@@ -15,6 +17,25 @@ struct Case {
     minus: Pairs,
     /// What is in the second set and not in the first.
     other_minus: Pairs,
+}
+
+/// The division by some sets.
+fn division_by(alloc: Global, lists: &[&[(u32, u32)]]) -> Result<Division, AllocError> {
+    let mut sets = Vec::new(alloc);
+    for pairs in lists {
+        sets.push(set_of(alloc, pairs)?)?;
+    }
+    Division::new(alloc, &sets)
+}
+
+/// The division by a set and by each code point before `end`.
+fn fine_division(alloc: Global, pairs: &[(u32, u32)], end: u32) -> Result<Division, AllocError> {
+    let mut sets = Vec::new(alloc);
+    sets.push(set_of(alloc, pairs)?)?;
+    for c in 0..end {
+        sets.push(set_of(alloc, &[(c, c)])?)?;
+    }
+    Division::new(alloc, &sets)
 }
 
 fn is_in(pairs: &[(u32, u32)], c: u32) -> bool {

@@ -1,5 +1,5 @@
 //! Sets of classes, from ranges and back.
-use super::{Case, is_in};
+use super::{Case, division_by, fine_division, is_in};
 use crate::ranges::{LAST, Pairs, set_of};
 use rbbi_classes::{ClassSet, ClassShelf, Division, Layout};
 use std::alloc::{AllocError, Global};
@@ -25,24 +25,6 @@ const OTHERS: Pairs = &[
     (0x7B, 0xD7FF),
     (0xE000, LAST),
 ];
-
-/// The division by some sets.
-fn division_by(alloc: Global, sets: &[Pairs]) -> Result<Division, AllocError> {
-    let mut made = Vec::new(alloc);
-    for pairs in sets {
-        made.push(set_of(alloc, pairs)?)?;
-    }
-    Division::new(alloc, &made)
-}
-
-/// A division of which each of the first `count` code points is a class of its own.
-fn fine_division(alloc: Global, count: u32) -> Result<Division, AllocError> {
-    let mut sets = Vec::new(alloc);
-    for c in 0..count {
-        sets.push(set_of(alloc, &[(c, c)])?)?;
-    }
-    Division::new(alloc, &sets)
-}
 
 /// The classes whose first code points are in some ranges.
 fn classes_of(
@@ -111,54 +93,9 @@ fn spans(rt: HostRuntime) -> Result<(), Fail> {
 }
 
 #[test]
-fn spans_without_sets(rt: HostRuntime) -> Result<(), Fail> {
-    // There are the surrogates and the others.
-    let cases: [Span; 4] = [
-        (0, 0xD7FF, &[(0, 0xD7FF), (0xE000, LAST)]),
-        (1, LAST, &[(0xD800, 0xDFFF)]),
-        (0, LAST, &[(0, LAST)]),
-        (0xE000, LAST, &[]),
-    ];
-    let division = division_by(rt.alloc(), &[])?;
-    for (low, high, want) in &cases {
-        assert!(rt; is_span(rt.alloc(), &division, *low, *high, want)?, "{low}");
-    }
-    Ok(())
-}
-
-#[test]
-fn sets_of_a_division(rt: HostRuntime) -> Result<(), Fail> {
-    let division = division_by(rt.alloc(), &SETS)?;
-    for pairs in &SETS {
-        let classes = classes_of(rt.alloc(), division.layout(), pairs)?;
-        assert!(rt; are(&division, &classes, pairs));
-    }
-    Ok(())
-}
-
-/// The letters that are no hexadecimal digits.
-fn other_letters(alloc: Global, layout: &Layout) -> Result<ClassSet, AllocError> {
-    let letters = classes_of(alloc, layout, SETS[1])?;
-    let digits = classes_of(alloc, layout, SETS[2])?;
-    letters.remove(alloc, &digits)
-}
-
-#[test]
-fn sets_made_of_others(rt: HostRuntime) -> Result<(), Fail> {
-    let division = division_by(rt.alloc(), &SETS)?;
-    let letters = other_letters(rt.alloc(), division.layout())?;
-    let want: Pairs = &[(0x47, 0x5A), (0x67, 0x7A)];
-    assert!(rt; are(&division, &letters, want));
-    let others = letters.negate(rt.alloc(), division.layout())?;
-    let want: Pairs = &[(0, 0x46), (0x5B, 0x66), (0x7B, LAST)];
-    assert!(rt; are(&division, &others, want));
-    Ok(())
-}
-
-#[test]
 fn members_of_shared_classes(rt: HostRuntime) -> Result<(), Fail> {
     let division = division_by(rt.alloc(), &SETS)?;
-    let letters = other_letters(rt.alloc(), division.layout())?;
+    let letters = classes_of(rt.alloc(), division.layout(), &[(0x47, 0x5A), (0x67, 0x7A)])?;
     let kept = ClassShelf::new(rt.alloc()).keep(rt.alloc(), &letters)?;
     for (c, is_member) in [
         (0, false),
@@ -340,7 +277,7 @@ fn operations(rt: HostRuntime) -> Result<(), Fail> {
             other_minus: &[(100, 110), (8190, 8190), (8192, 8195), (9002, 9500)],
         },
     ];
-    let division = fine_division(rt.alloc(), 10_000)?;
+    let division = fine_division(rt.alloc(), &[], 10_000)?;
     for case in &cases {
         let first = if case.left.is_empty() {
             0
@@ -378,7 +315,7 @@ fn complements(rt: HostRuntime) -> Result<(), Fail> {
         (&[(1999, LAST)], &[(0, 1998)]),
         (&[(1, 1), (640, 1343)], &[(0, 0), (2, 639), (1344, LAST)]),
     ];
-    let division = fine_division(rt.alloc(), 2000)?;
+    let division = fine_division(rt.alloc(), &[], 2000)?;
     for (of, want) in &cases {
         assert!(rt; is_complement(rt.alloc(), &division, of, want)?);
     }
@@ -419,16 +356,6 @@ fn characters(rt: HostRuntime) -> Result<(), Fail> {
         let (has_some, has_others) = characters_in(rt.alloc(), &division, of)?;
         assert_eq!(rt; has_some, *some);
         assert_eq!(rt; has_others, *others);
-    }
-    Ok(())
-}
-
-#[test]
-fn characters_beside_surrogates(rt: HostRuntime) -> Result<(), Fail> {
-    let division = division_by(rt.alloc(), &[&[(0xDFFF, LAST)]])?;
-    for (low, high) in [(0, 0xDFFE), (0xDFFF, LAST)] {
-        let (some, others) = characters_in(rt.alloc(), &division, &[(low, high)])?;
-        assert!(rt; some && others);
     }
     Ok(())
 }

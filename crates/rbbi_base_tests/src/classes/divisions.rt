@@ -1,21 +1,11 @@
 //! Divisions by sets, with classes worked out by hand.
-use crate::ranges::{LAST, set_of};
-use rbbi_classes::Division;
-use rbbi_sets::CodeSet;
-use std::alloc::{AllocError, Global};
+use super::{division_by, fine_division};
+use crate::ranges::LAST;
 use std::test::Fail;
 
 /// Some sets, and code points with the numbers of their classes. Classes have their numbers in the
 /// order of their first code points.
 type Classes<'a> = (&'a [&'a [(u32, u32)]], &'a [(u32, usize)]);
-
-fn sets_of(alloc: Global, lists: &[&[(u32, u32)]]) -> Result<Vec<CodeSet>, AllocError> {
-    let mut sets = Vec::new(alloc);
-    for pairs in lists {
-        sets.push(set_of(alloc, pairs)?)?;
-    }
-    Ok(sets)
-}
 
 #[test]
 fn classes_of_sets(rt: HostRuntime) -> Result<(), Fail> {
@@ -138,8 +128,7 @@ fn classes_of_sets(rt: HostRuntime) -> Result<(), Fail> {
         ),
     ];
     for (lists, classes) in &cases {
-        let sets = sets_of(rt.alloc(), lists)?;
-        let division = Division::new(rt.alloc(), &sets)?;
+        let division = division_by(rt.alloc(), lists)?;
         for (c, class) in classes.iter() {
             assert_eq!(rt; division.class_at(*c), *class);
         }
@@ -147,17 +136,12 @@ fn classes_of_sets(rt: HostRuntime) -> Result<(), Fail> {
     Ok(())
 }
 
+/// Each code point below 40 is a class, and what lies past them another.
 #[test]
 fn many_sets(rt: HostRuntime) -> Result<(), Fail> {
-    let mut sets = Vec::new(rt.alloc());
-    for i in 0u32..40 {
-        let letter = 2 * i + 1;
-        sets.push(CodeSet::range(rt.alloc(), letter, letter)?)?;
-    }
-    let division = Division::new(rt.alloc(), &sets)?;
-    for i in 0u32..40 {
-        assert_eq!(rt; division.class_at(2 * i), 0);
-        assert_eq!(rt; division.class_at(2 * i + 1), i as usize + 1);
+    let division = fine_division(rt.alloc(), &[], 40)?;
+    for c in 0u32..41 {
+        assert_eq!(rt; division.class_at(c), c as usize);
     }
     assert_eq!(rt; division.class_at(0xD800), 41);
     Ok(())
