@@ -1,5 +1,7 @@
 //! The rules of short files.
-ghost use Rattle.std.specs.Prelude.{◌≤◌, length};
+ghost use Rattle.std.specs.Prelude.{◌≤◌, IfOk, length};
+ghost use Rattle.rbbi_model.specs.Rules.{AreLawful};
+ghost use Rattle.rbbi_resolve.specs.RuleLists.{rules_of};
 
 use rbbi_lex::lex;
 use rbbi_props::PropTable;
@@ -12,6 +14,7 @@ use std::test::Fail;
 /// The rules of a text.
 pub(crate) fn rules_in(alloc: Global, text: &str) -> Result<Rules, Fail>
     requires { length text.now ≤ 1000000 }
+    ensures { IfOk result (λ rules. AreLawful (rules_of rules)) }
 {
     let end = count_characters(text);
     let tokens = lex(alloc, text)?;
