@@ -1,14 +1,14 @@
 //! The tables that are in the program.
 
 use crate::options::Kind;
-use crate::tables::{GRAPHEME, LINE, SENTENCE, WORD};
+use rbbi_segment_tables::{graphemes, lines, sentences, words};
 
 /// The bytes of the table file.
 pub(crate) fn table_bytes(kind: Kind) -> &'static [u8] {
     match kind {
-        Kind::Grapheme => GRAPHEME,
-        Kind::Word => WORD,
-        Kind::Sentence => SENTENCE,
-        Kind::Line => LINE,
+        Kind::Grapheme => graphemes(),
+        Kind::Word => words(),
+        Kind::Sentence => sentences(),
+        Kind::Line => lines(),
     }
 }

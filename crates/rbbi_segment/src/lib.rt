@@ -21,7 +21,6 @@ mod reading;
 mod rules;
 mod segments;
 mod source;
-mod tables;
 mod tally;
 
 pub use colors::Surroundings;
