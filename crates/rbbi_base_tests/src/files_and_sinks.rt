@@ -1,32 +1,15 @@
 //! Each public call once, calls that fail in mid-stream, and the system's files and writers.
-ghost use Rattle.std.specs.Prelude.{◌≡◌, ◌<◌};
 
+use crate::texts::bytes_of;
 use rbbi_io::{
     CalmFiles, CalmSink, Files, MemFiles, MemSink, ReadErr, RealFiles, RealSink, Sink, WriteErr,
     put_all, put_when_full, read_at_most,
 };
-use rbbi_text::{Raw, Steps};
 use std::alloc::{AllocError, Global};
 use std::fs::File;
 use std::io;
 use std::io::{ErrorKind, Read, Write};
-use std::marker::Brand;
-use std::sync::ledger::{Blank, Ledger};
 use std::test::Fail;
-
-/// The bytes of a file, as a copy.
-fn copied<L: Ledger>(rt: &HostRuntime, raw: &Raw, blank: Blank) -> Result<Vec<u8>, AllocError>
-    requires name { blank.name ≡ L.name }
-    requires parts { blank.parts ≡ L.parts }
-    requires some { 0 < blank.parts }
-{
-    let mut steps = Steps::<L>::new(rt, blank);
-    raw.bytes(&mut steps).to_vec(rt.alloc())
-}
-
-fn bytes_of(rt: &HostRuntime, raw: &Raw) -> Result<Vec<u8>, AllocError> {
-    copied::<Brand>(rt, raw, Blank::new(1))
-}
 
 /// A name of the answer to a write.
 fn label_of(answer: &Result<(), WriteErr>) -> &str {

@@ -35,6 +35,10 @@ fn copied<L: Ledger>(rt: &HostRuntime, raw: &Raw, blank: Blank) -> Result<Vec<u8
     raw.bytes(&mut steps).to_vec(rt.alloc())
 }
 
+pub(crate) fn bytes_of(rt: &HostRuntime, raw: &Raw) -> Result<Vec<u8>, AllocError> {
+    copied::<Brand>(rt, raw, Blank::new(1))
+}
+
 fn raw_of(alloc: Global, bytes: &[u8]) -> Result<Raw, AllocError>
     ensures { IfOk result (λ raw. raw ≡ bytes.now) }
 {
@@ -61,7 +65,7 @@ fn texts_of_bytes(rt: HostRuntime) -> Result<(), Fail> {
     let plain = PlainText::from_raw(alloc, &raw)?;
     let shown = shown::<Brand>(&rt, &plain, Blank::new(1))?;
     assert_eq!(rt; shown.as_str(), text);
-    let bytes = copied::<Brand>(&rt, &raw, Blank::new(1))?;
+    let bytes = bytes_of(&rt, &raw)?;
     assert_eq!(rt; bytes.as_slice(), text.as_bytes());
     Ok(())
 }

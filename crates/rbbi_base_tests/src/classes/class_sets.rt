@@ -93,6 +93,22 @@ fn spans(rt: HostRuntime) -> Result<(), Fail> {
 }
 
 #[test]
+fn spans_without_sets(rt: HostRuntime) -> Result<(), Fail> {
+    // There are the surrogates and the others.
+    let cases: [Span; 4] = [
+        (0, 0xD7FF, &[(0, 0xD7FF), (0xE000, LAST)]),
+        (1, LAST, &[(0xD800, 0xDFFF)]),
+        (0, LAST, &[(0, LAST)]),
+        (0xE000, LAST, &[]),
+    ];
+    let division = division_by(rt.alloc(), &[])?;
+    for (low, high, want) in &cases {
+        assert!(rt; is_span(rt.alloc(), &division, *low, *high, want)?, "{low}");
+    }
+    Ok(())
+}
+
+#[test]
 fn members_of_shared_classes(rt: HostRuntime) -> Result<(), Fail> {
     let division = division_by(rt.alloc(), &SETS)?;
     let letters = classes_of(rt.alloc(), division.layout(), &[(0x47, 0x5A), (0x67, 0x7A)])?;
@@ -137,7 +153,8 @@ fn is_case(
     )
 }
 
-/// The same of the two sets, and of them in turn with what is left of the second one.
+/// Whether the case holds for the two sets, and for them in turn with what is left of the second
+/// one.
 fn is_case_both_ways(
     alloc: Global,
     division: &Division,
@@ -159,7 +176,8 @@ fn is_case_both_ways(
     )
 }
 
-/// The same with each set in a row of its own, and with one of them or both in chunks.
+/// Whether the case holds both ways with each set in a row of its own, and with one of them or both
+/// in chunks.
 fn is_case_in_all_forms(
     alloc: Global,
     division: &Division,
@@ -356,6 +374,16 @@ fn characters(rt: HostRuntime) -> Result<(), Fail> {
         let (has_some, has_others) = characters_in(rt.alloc(), &division, of)?;
         assert_eq!(rt; has_some, *some);
         assert_eq!(rt; has_others, *others);
+    }
+    Ok(())
+}
+
+#[test]
+fn characters_beside_surrogates(rt: HostRuntime) -> Result<(), Fail> {
+    let division = division_by(rt.alloc(), &[&[(0xDFFF, LAST)]])?;
+    for (low, high) in [(0, 0xDFFE), (0xDFFF, LAST)] {
+        let (some, others) = characters_in(rt.alloc(), &division, &[(low, high)])?;
+        assert!(rt; some && others);
     }
     Ok(())
 }

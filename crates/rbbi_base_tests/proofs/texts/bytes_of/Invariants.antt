@@ -1,4 +1,4 @@
-use Rattle.rbbi_base_tests.proofs.files_and_sinks.bytes_of.Given as goal
+use Rattle.rbbi_base_tests.proofs.texts.bytes_of.Given as goal
 
 -- a ledger of its own
 abbrev pub ghosts-copied : goal.ghosts-copied
