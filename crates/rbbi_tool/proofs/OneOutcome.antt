@@ -474,8 +474,8 @@ module _ (laws : Laws) where
   same_table rules name one other is is' =
       is.is
       ∙ ap (table_outcome name)
-      (same_canonical laws.marks laws.have_canonical laws.canonical rules is.table is'.table is.canonical is'.canonical is.lawful is.compiled is'.compiled
-      is.made is'.made)
+      (same_canonical laws.marks laws.have_canonical laws.canonical rules is.of_rules.table is'.of_rules.table is.canonical is'.canonical is.lawful
+      is.of_rules.compiled is'.of_rules.compiled is.of_rules.made is'.of_rules.made)
       ∙ sym is'.is
 
   -- rules have the same marks or differ, and of texts after which they do any may be told

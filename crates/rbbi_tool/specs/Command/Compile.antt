@@ -16,14 +16,17 @@ use Rattle.rbbi_tool.specs.Basis.{compiled_stage}
 abbrev pub table_outcome : List ℕ → Table → Outcome
 table_outcome name table = record { status = 0; bytes = compile_line table; file = Some (record { name = name; bytes = spelling table }) }
 
--- A table is compiled from the rules, which are lawful: the file of its canonical table is written under the name, and the numbers of that
--- one are told.
-pub record TellsTable (rules : List Rule) (name : List ℕ) (outcome : Outcome) : Type 0 where
-  pub lawful : AreLawful rules
+-- the table is the canonical one of a table that is compiled from the rules
+pub record IsCanonicalOf (rules : List Rule) (canonical : Table) : Type 0 where
   pub table : Table
   pub compiled : IsCompiled table rules
-  pub canonical : Table
   pub made : IsCanonical table canonical
+
+-- The rules are lawful: the file of a canonical table of them is written under the name, and the numbers of that one are told.
+pub record TellsTable (rules : List Rule) (name : List ℕ) (outcome : Outcome) : Type 0 where
+  pub lawful : AreLawful rules
+  pub canonical : Table
+  pub of_rules : IsCanonicalOf rules canonical
   pub is : outcome ≡ table_outcome name canonical
 
 -- the table file of a rule file, under this name

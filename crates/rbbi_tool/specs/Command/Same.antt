@@ -85,11 +85,15 @@ abbrev pub as_second : {A : Type 0} → Stage A → Stage A
 as_second {A} stage =
     record { passes = stage.passes; refuses = λ refusal. (told : Refusal) × stage.refuses told × (refusal ≡ told_of_second told) }
 
+-- the second rule file, and then whether it has the same marks as these rules
+abbrev pub second_stage : List File → Bool → Inputs → List Rule → Stage Outcome
+second_stage files ignored inputs rules =
+    followed_by (as_second (compiled_bytes_stage files ignored inputs.other_rules)) (comparison_stage rules)
+
 -- two rule files, with these property files: the first, then the second, and then whether they have the same marks
 abbrev pub rule_files_stage : List File → Bool → Inputs → Stage Outcome
 rule_files_stage files ignored inputs =
-    followed_by (compiled_bytes_stage files ignored inputs.rules)
-    (λ rules. followed_by (as_second (compiled_bytes_stage files ignored inputs.other_rules)) (comparison_stage rules))
+    followed_by (compiled_bytes_stage files ignored inputs.rules) (second_stage files ignored inputs)
 
 -- whether two rule files have the same marks, behind the property files that are handed in for both
 abbrev pub same_stage : Options → Inputs → Stage Outcome

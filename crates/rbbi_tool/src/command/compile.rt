@@ -1,17 +1,21 @@
 //! The command `compile`.
 ghost use Rattle.std.specs.Prelude.{◌≡◌, IfOk};
+ghost use Rattle.rbbi_model.specs.Rules.{AreLawful};
 ghost use Rattle.rbbi_model.specs.Lines.{compile_line};
+ghost use Rattle.rbbi_resolve.specs.RuleLists.{rules_of};
+ghost use Rattle.rbbi_tool.specs.Basis.{limits_stage};
 ghost use Rattle.rbbi_tool.specs.inner.Stages.{Meets};
 ghost use Rattle.rbbi_tool.specs.inner.Prepared.{answer_of};
 ghost use Rattle.rbbi_command.specs.Requests.{options_in};
 ghost use Rattle.rbbi_command.specs.Inputs.{inputs_in, AreShort};
-ghost use Rattle.rbbi_tool.specs.Command.Compile.{compile_stage, table_outcome};
+ghost use Rattle.rbbi_tool.specs.Command.Compile.{IsCanonicalOf, compile_stage, table_outcome};
 
 use crate::prepared::Prepared;
 use crate::rules::rules_from;
 use crate::tables::table_of;
 use itoa::Buffer;
 use rbbi_command::{Inputs, Name, Options, Output, Refusal, Written, joined};
+use rbbi_resolve::Rules;
 use rbbi_table::Table;
 use rbbi_text::Steps;
 use std::alloc::{AllocError, Global};
@@ -49,6 +53,17 @@ fn numbers_line(alloc: Global, table: &Table) -> Result<Vec<u8>, AllocError>
     )
 }
 
+/// The canonical table of rules.
+fn canonical_of(alloc: Global, rules: &Rules) -> Result<Table, Refusal>
+    requires { AreLawful (rules_of rules.now) }
+    ensures exact { Meets (λ _. tt) (limits_stage (rules_of rules.now)) result }
+    ensures canonical { IfOk result (IsCanonicalOf (rules_of rules.now)) }
+{
+    let table = table_of(alloc, rules)?;
+    rbbi_dfa::compiled_tables_have_canonical();
+    Ok(rbbi_canon::canonical(alloc, &table)?)
+}
+
 /// The table's file under this name, in version 2, and the line of the table's numbers.
 pub(super) fn table_output(alloc: Global, table: &Table, name: &str) -> Result<Output, AllocError>
     ensures { IfOk result (λ output. output ≡ table_outcome name.now table.now) }
@@ -78,9 +93,7 @@ pub(crate) fn compile<L: Ledger>(
         (answer_of result) }
 {
     let rules = rules_from(alloc, options, inputs, steps)?;
-    let table = table_of(alloc, &rules)?;
-    rbbi_dfa::compiled_tables_have_canonical();
-    let canonical = rbbi_canon::canonical(alloc, &table)?;
+    let canonical = canonical_of(alloc, &rules)?;
     let output = table_output(alloc, &canonical, name)?;
     Ok(Prepared::Ready(output))
 }

@@ -1,5 +1,6 @@
 //! The command `same`.
-ghost use Rattle.std.specs.Prelude.{◌≡◌, ◌%◌, ◌++◌, IfOk, OnOk};
+ghost use Rattle.std.specs.Prelude.{◌≡◌, ◌%◌, ◌++◌, List, IfOk, OnOk};
+ghost use Rattle.rbbi_model.specs.Rules.{Rule};
 ghost use Rattle.rbbi_model.specs.Compiled.{IsCompiled};
 ghost use Rattle.rbbi_command.specs.Requests.{options_in};
 ghost use Rattle.rbbi_command.specs.Inputs.{inputs_in, AreShort};
@@ -124,6 +125,23 @@ fn second_table<L: Ledger>(
     }
 }
 
+/// Whether the second rule file has the same marks as the first, whose table this is.
+fn compared_with<L: Ledger>(
+    alloc: Global,
+    these: &Table,
+    inputs: &Inputs,
+    props: &PropTable,
+    ignored: bool,
+    steps: &mut Steps<L>,
+) -> Result<Output, Refusal>
+    requires { AreShort (inputs_in inputs.now) }
+    ensures { (rules : List Rule) → IsCompiled these.now rules → Meets (λ output. output)
+        (spec.second_stage props.now ignored (inputs_in inputs.now) rules) result }
+{
+    let those = second_table(alloc, inputs, props, ignored, steps)?;
+    Ok(comparison_of(alloc, these, &those)?)
+}
+
 /// Whether the two rule files have the same marks, with property files that were read.
 fn rule_files<L: Ledger>(
     alloc: Global,
@@ -137,8 +155,7 @@ fn rule_files<L: Ledger>(
         (spec.rule_files_stage props.now ignored (inputs_in inputs.now)) result }
 {
     let these = first_table(alloc, inputs, props, ignored, steps)?;
-    let those = second_table(alloc, inputs, props, ignored, steps)?;
-    Ok(comparison_of(alloc, &these, &those)?)
+    compared_with(alloc, &these, inputs, props, ignored, steps)
 }
 
 /// Whether two rule files have the same marks after every text, and else a text after which they

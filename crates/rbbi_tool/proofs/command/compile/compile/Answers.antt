@@ -8,14 +8,10 @@ returns-in_err-rules g c =
     let p = err_from_is_err_and c.from_residual.result c.from_residual.ensures.1 in
     rw (p.1, p.2) (⊎_elim inl (λ is. inr (inl (inl is))) c.in_err-rules.ensures.exact)
 
-pub returns-in_err-table : goal.returns-in_err-table
-returns-in_err-table g c =
-    let p = err_from_is_err_and c.from_residual-in_err-table.result c.from_residual-in_err-table.ensures.1 in
-    rw (p.1, p.2) (⊎_elim inl (λ is. inr (inl (inr (rules_of c.in_ok-rules.rules, c.in_ok-rules.ensures.exact, inl is)))) c.in_err-table.ensures.exact)
-
-pub canonical-requires : goal.canonical-requires
-canonical-requires g c =
-    c.compiled_tables_have_canonical.ensures c.in_ok-table.table (rules_of c.in_ok-rules.rules) c.in_ok-rules.ensures.lawful c.in_ok-table.ensures.compiled
+pub returns-in_err-canonical : goal.returns-in_err-canonical
+returns-in_err-canonical g c =
+    let p = err_from_is_err_and c.from_residual-in_err-canonical.result c.from_residual-in_err-canonical.ensures.1 in
+    rw (p.1, p.2) (⊎_elim inl (λ is. inr (inl (inr (rules_of c.in_ok-rules.rules, c.in_ok-rules.ensures.exact, inl is)))) c.in_err-canonical.ensures.exact)
 
 pub returns-in_err-output : goal.returns-in_err-output
 returns-in_err-output g c =
@@ -26,13 +22,11 @@ pub returns : goal.returns
 returns g c =
     let rules = rules_of c.in_ok-rules.rules in (
       rules,
-      (rules, c.in_ok-rules.ensures.exact, (tt, c.in_ok-table.ensures.exact, refl)),
+      (rules, c.in_ok-rules.ensures.exact, (tt, c.in_ok-canonical.ensures.exact, refl)),
       record {
         lawful = c.in_ok-rules.ensures.lawful;
-        table = c.in_ok-table.table;
-        compiled = c.in_ok-table.ensures.compiled;
         canonical = c.in_ok-canonical.canonical;
-        made = c.in_ok-canonical.ensures;
+        of_rules = c.in_ok-canonical.ensures.canonical;
         is = c.in_ok-output.ensures;
       },
     )
