@@ -78,6 +78,24 @@ fn put_segments<K: Sink, L: Ledger>(
     }
 }
 
+/// Puts the segments of the text with this name by a table.
+fn segment_text<F: Files, R: Read, K: Sink, L: Ledger>(
+    alloc: Global,
+    request: &Request<'_>,
+    table: &Table,
+    name: &str,
+    faults: Colors,
+    colors: Colors,
+    files: &mut F,
+    input: &mut R,
+    out: &mut K,
+    steps: &mut Steps<L>,
+) -> Result<(), Failure> {
+    let text = read_text(alloc, name, faults, files, input)?;
+    put_segments(alloc, request, table, &text, colors, out, steps)?;
+    Ok(())
+}
+
 /// Does what a request asks for.
 fn perform<F: Files, R: Read, K: Sink, L: Ledger>(
     alloc: Global,
@@ -94,10 +112,10 @@ fn perform<F: Files, R: Read, K: Sink, L: Ledger>(
     let Task::Segment(name) = request.task else {
         return Ok(());
     };
-    let text = read_text(alloc, name, faults, files, input)?;
     let colors = Colors::new(request.color, surroundings.output_is_terminal, no_color);
-    put_segments(alloc, request, &table, &text, colors, out, steps)?;
-    Ok(())
+    segment_text(
+        alloc, request, &table, name, faults, colors, files, input, out, steps,
+    )
 }
 
 /// Puts a message as far as can be, and answers the status.
