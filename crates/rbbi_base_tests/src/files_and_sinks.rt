@@ -9,6 +9,7 @@ use std::alloc::{AllocError, Global};
 use std::fs::File;
 use std::io;
 use std::io::{ErrorKind, Read, Write};
+use std::process::Abort;
 use std::test::Fail;
 
 /// A name of the answer to a write.
@@ -32,27 +33,44 @@ fn read<F: Files>(
     }
 }
 
+/// Asserts that each of these names, read with this limit, gives these bytes or this refusal.
+fn check_reads<F: Files>(
+    rt: &impl Abort,
+    host: &HostRuntime,
+    files: &mut F,
+    rows: &[(&str, u64, &str)],
+) -> Result<(), AllocError> {
+    for row in rows {
+        let (name, limit, wanted) = *row;
+        let found = read(host, files, name, limit)?;
+        assert_eq!(rt; found.as_slice(), wanted.as_bytes(), "of {name}");
+    }
+    Ok(())
+}
+
+/// Files that are added, then files that are written.
+const ADDED: [(&str, &str); 3] = [("a", "one"), ("b", ""), ("a", "three")];
+
+const WRITTEN: [(&str, &str); 2] = [("c", "two"), ("b", "four")];
+
+const FILES_IN_MEMORY: [(&str, u64, &str); 5] = [
+    ("a", 5, "three"),
+    ("b", 4, "four"),
+    ("c", 3, "two"),
+    ("a", 4, "TooLong"),
+    ("d", 4, "Failed"),
+];
+
 #[test]
 fn files_in_memory(rt: HostRuntime) -> Result<(), Fail> {
     let mut files = MemFiles::new(rt.alloc());
-    for (name, bytes) in [("a", "one"), ("b", ""), ("a", "three")] {
+    for (name, bytes) in &ADDED {
         files.add(name, bytes.as_bytes())?;
     }
-    for (name, bytes) in [("c", "two"), ("b", "four")] {
+    for (name, bytes) in &WRITTEN {
         files.write(name, bytes.as_bytes())?;
     }
-    for (name, limit, wanted) in [
-        ("a", 5, "three"),
-        ("b", 4, "four"),
-        ("c", 3, "two"),
-        ("a", 4, "TooLong"),
-        ("d", 4, "Failed"),
-    ] {
-        assert_eq!(rt;
-            read(&rt, &mut files, name, limit)?.as_slice(),
-            wanted.as_bytes()
-        );
-    }
+    check_reads(&rt, &rt, &mut files, &FILES_IN_MEMORY)?;
     assert_eq!(rt; files.get("d"), None);
     assert_eq!(rt; files.calls(), 7);
     Ok(())
@@ -80,22 +98,19 @@ fn calls_that_fail(rt: HostRuntime) -> Result<(), Fail> {
     Ok(())
 }
 
+const FILES_THAT_NEVER_FAIL: [(&str, u64, &str); 4] = [
+    ("a", 3, "one"),
+    ("b", 3, "two"),
+    ("c", 0, ""),
+    ("a", 2, "TooLong"),
+];
+
 #[test]
 fn files_that_never_fail(rt: HostRuntime) -> Result<(), Fail> {
     let mut files = CalmFiles::new(rt.alloc());
     files.add("a", b"one")?;
     files.write("b", b"two")?;
-    for (name, limit, wanted) in [
-        ("a", 3, "one"),
-        ("b", 3, "two"),
-        ("c", 0, ""),
-        ("a", 2, "TooLong"),
-    ] {
-        assert_eq!(rt;
-            read(&rt, &mut files, name, limit)?.as_slice(),
-            wanted.as_bytes()
-        );
-    }
+    check_reads(&rt, &rt, &mut files, &FILES_THAT_NEVER_FAIL)?;
     assert_eq!(rt; files.get("b"), Some(b"two".as_slice()));
     assert_eq!(rt; files.calls(), 5);
     Ok(())
@@ -111,19 +126,22 @@ fn puts_that_never_fail(rt: HostRuntime) -> Result<(), Fail> {
     Ok(())
 }
 
+/// How many bytes more are made, how many a put takes, and how many puts and bytes there were.
+const OUTPUTS: [(u32, usize, u64, usize); 4] = [
+    (65_535, 70_000, 0, 0),
+    (1, 70_000, 1, 65_536),
+    (65_535, 70_000, 1, 65_536),
+    (2, 65_000, 3, 131_073),
+];
+
 /// What waits goes out once it is 65,536 bytes, and nothing is put behind a put that is refused.
 #[test]
 fn output_in_pieces(rt: HostRuntime) -> Result<(), Fail> {
     let mut sink = MemSink::new(rt.alloc());
     sink.fail_at(4)?;
     let mut made = Vec::new(rt.alloc());
-    // how many bytes more are made, how many a put takes, and how many puts and bytes there were
-    for (more, most, calls, taken) in [
-        (65_535, 70_000, 0, 0),
-        (1, 70_000, 1, 65_536),
-        (65_535, 70_000, 1, 65_536),
-        (2, 65_000, 3, 131_073),
-    ] {
+    for row in &OUTPUTS {
+        let (more, most, calls, taken) = *row;
         assert!(rt; most >= 1);
         sink.at_most(most);
         for _ in 0..more {
@@ -139,12 +157,14 @@ fn output_in_pieces(rt: HostRuntime) -> Result<(), Fail> {
     Ok(())
 }
 
+const PUTS: [(&str, &str); 4] = [("ab", "Ok"), ("cd", "Failed"), ("", "Ok"), ("ef", "Ok")];
+
 #[test]
 fn puts_that_fail(rt: HostRuntime) -> Result<(), Fail> {
     let mut sink = MemSink::new(rt.alloc());
     sink.fail_at(2)?;
-    for (piece, wanted) in [("ab", "Ok"), ("cd", "Failed"), ("", "Ok"), ("ef", "Ok")] {
-        assert_eq!(rt; label_of(&put_all(&mut sink, piece.as_bytes())), wanted);
+    for (piece, wanted) in &PUTS {
+        assert_eq!(rt; label_of(&put_all(&mut sink, piece.as_bytes())), *wanted);
     }
     assert_eq!(rt; sink.taken(), b"abef".as_slice());
     assert_eq!(rt; sink.calls(), 3);
@@ -203,28 +223,30 @@ impl Write for Told {
     }
 }
 
+const WRITERS_AS_SINKS: [(&[Option<usize>], ErrorKind, &str, &[u8]); 4] = [
+    (
+        &[Some(9), Some(1), Some(3)],
+        ErrorKind::Other,
+        "Ok",
+        b"abcdef",
+    ),
+    (
+        &[Some(9), None, Some(1)],
+        ErrorKind::Interrupted,
+        "Ok",
+        b"abcdef",
+    ),
+    (&[Some(2), Some(1)], ErrorKind::Other, "Failed", b"abc"),
+    (&[None, Some(1)], ErrorKind::OutOfMemory, "Memory", b"a"),
+];
+
 #[test]
 fn writers_as_sinks(rt: HostRuntime) -> Result<(), Fail> {
     let alloc = rt.alloc();
     // In pieces to the end; an interrupted write is tried again; one that takes nothing is a fault;
     // want of memory is none.
-    let rows: [(&[Option<usize>], ErrorKind, &str, &[u8]); 4] = [
-        (
-            &[Some(9), Some(1), Some(3)],
-            ErrorKind::Other,
-            "Ok",
-            b"abcdef",
-        ),
-        (
-            &[Some(9), None, Some(1)],
-            ErrorKind::Interrupted,
-            "Ok",
-            b"abcdef",
-        ),
-        (&[Some(2), Some(1)], ErrorKind::Other, "Failed", b"abc"),
-        (&[None, Some(1)], ErrorKind::OutOfMemory, "Memory", b"a"),
-    ];
-    for (answers, fault, wanted, taken) in rows {
+    for row in &WRITERS_AS_SINKS {
+        let (answers, fault, wanted, taken) = *row;
         let mut writer = Told::new(alloc, answers, fault)?;
         let answer = put_all(&mut RealSink::new(&mut writer), b"abcdef");
         assert_eq!(rt; label_of(&answer), wanted);
@@ -242,23 +264,25 @@ fn empty_pieces(rt: HostRuntime) -> Result<(), Fail> {
     Ok(())
 }
 
+const READS: [(&[Option<usize>], ErrorKind, &str); 5] = [
+    (&[Some(0), Some(3), Some(1)], ErrorKind::Other, "4"),
+    (
+        &[Some(0), Some(2), None, Some(2)],
+        ErrorKind::Interrupted,
+        "4",
+    ),
+    (&[Some(2), Some(3)], ErrorKind::Other, "TooLong"),
+    (&[None, Some(3)], ErrorKind::Other, "Failed"),
+    (&[None, Some(3)], ErrorKind::OutOfMemory, "Memory"),
+];
+
 /// An open file that gives its bytes in pieces, is interrupted, or fails in the middle.
 #[test]
 fn open_files(rt: HostRuntime) -> Result<(), Fail> {
     let alloc = rt.alloc();
     // 4 bytes may be read
-    let reads: [(&[Option<usize>], ErrorKind, &str); 5] = [
-        (&[Some(0), Some(3), Some(1)], ErrorKind::Other, "4"),
-        (
-            &[Some(0), Some(2), None, Some(2)],
-            ErrorKind::Interrupted,
-            "4",
-        ),
-        (&[Some(2), Some(3)], ErrorKind::Other, "TooLong"),
-        (&[None, Some(3)], ErrorKind::Other, "Failed"),
-        (&[None, Some(3)], ErrorKind::OutOfMemory, "Memory"),
-    ];
-    for (answers, fault, wanted) in reads {
+    for row in &READS {
+        let (answers, fault, wanted) = *row;
         let mut file = Told::new(alloc, answers, fault)?;
         match read_at_most(alloc, &mut file, 4) {
             Ok(raw) => {
@@ -278,16 +302,12 @@ fn files_of_the_system(rt: HostRuntime) -> Result<(), Fail> {
     let mut files = RealFiles::new(&rt);
     files.write(name, b"longer than the next")?;
     files.write(name, bytes.as_bytes())?;
-    for (name, limit, wanted) in [
+    let rows = [
         (name, 600_000, bytes.as_str()),
         (name, 599_999, "TooLong"),
         ("no/such/file", 9, "Failed"),
-    ] {
-        assert_eq!(rt;
-            read(&rt, &mut files, name, limit)?.as_slice(),
-            wanted.as_bytes()
-        );
-    }
+    ];
+    check_reads(&rt, &rt, &mut files, &rows)?;
     assert_eq!(rt; label_of(&files.write("no/such/file", b"a")), "Failed");
     assert!(rt; !std::fs::exists(&rt, "rbbi_io_real_files.tmp.rbbi-0")?);
     std::fs::remove_file(&rt, name)?;
@@ -306,14 +326,16 @@ fn a_file_as_a_sink(rt: HostRuntime) -> Result<(), Fail> {
     Ok(())
 }
 
+const REFUSALS: [(ReadErr, &str); 3] = [
+    (ReadErr::Failed, "Failed"),
+    (ReadErr::TooLong, "TooLong"),
+    (ReadErr::Memory, "Memory"),
+];
+
 #[test]
 fn names_of_refusals(rt: HostRuntime) {
-    for (refusal, label) in [
-        (ReadErr::Failed, "Failed"),
-        (ReadErr::TooLong, "TooLong"),
-        (ReadErr::Memory, "Memory"),
-    ] {
-        assert_eq!(rt; refusal.label(), label);
+    for (refusal, label) in &REFUSALS {
+        assert_eq!(rt; refusal.label(), *label);
         assert_eq!(rt; refusal.place(), None);
     }
     assert_eq!(rt; WriteErr::Memory.label(), "Memory");

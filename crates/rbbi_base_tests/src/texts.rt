@@ -80,21 +80,23 @@ fn edited<T: EditText>(text: &mut T, at: u32, remove: u32, insert: &str) -> &'st
     }
 }
 
+const EDITS: [(u32, u32, &str, &str, &str); 8] = [
+    (0, 0, "", "Ok", "ab\u{e9}cd"),
+    (5, 1, "x", "Outside", "ab\u{e9}cd"),
+    (6, 0, "", "Outside", "ab\u{e9}cd"),
+    (u32::MAX, u32::MAX, "x", "Outside", "ab\u{e9}cd"),
+    (5, 0, "e", "Ok", "ab\u{e9}cde"),
+    (1, 4, "\u{1f1e6}", "Ok", "a\u{1f1e6}e"),
+    (0, 1, "xyz", "Ok", "xyz\u{1f1e6}e"),
+    (0, 5, "", "Ok", ""),
+];
+
 #[test]
 fn edits(rt: HostRuntime) -> Result<(), Fail> {
     let alloc = rt.alloc();
     let mut plain = PlainText::new(alloc, "ab\u{e9}cd")?;
-    let rows: [(u32, u32, &str, &str, &str); 8] = [
-        (0, 0, "", "Ok", "ab\u{e9}cd"),
-        (5, 1, "x", "Outside", "ab\u{e9}cd"),
-        (6, 0, "", "Outside", "ab\u{e9}cd"),
-        (u32::MAX, u32::MAX, "x", "Outside", "ab\u{e9}cd"),
-        (5, 0, "e", "Ok", "ab\u{e9}cde"),
-        (1, 4, "\u{1f1e6}", "Ok", "a\u{1f1e6}e"),
-        (0, 1, "xyz", "Ok", "xyz\u{1f1e6}e"),
-        (0, 5, "", "Ok", ""),
-    ];
-    for (at, remove, insert, answer, after) in rows {
+    for row in &EDITS {
+        let (at, remove, insert, answer, after) = *row;
         assert_eq!(rt; edited(&mut plain, at, remove, insert), answer, "at {at}");
         let shown = shown::<Brand>(&rt, &plain, Blank::new(1))?;
         assert_eq!(rt; shown.as_str(), after, "at {at}");
@@ -102,20 +104,22 @@ fn edits(rt: HostRuntime) -> Result<(), Fail> {
     Ok(())
 }
 
+/// A byte that begins no character, a character cut short, one written too long, a surrogate, and
+/// a number past the last code point, each with its place.
+const BYTES_THAT_ARE_NO_TEXT: [(&[u8], u32); 6] = [
+    (b"a\xff", 1),
+    (b"\xe2\x82", 0),
+    (b"ab\xc0\xaf", 2),
+    (b"\xc3\xa9\xed\xa0\x80", 2),
+    (b"abc\xf4\x90\x80\x80", 3),
+    (b"\x80", 0),
+];
+
 #[test]
 fn bytes_that_are_no_text(rt: HostRuntime) -> Result<(), Fail> {
     let alloc = rt.alloc();
-    // A byte that begins no character, a character cut short, one written too long, a surrogate,
-    // and a number past the last code point.
-    let rows: [(&[u8], u32); 6] = [
-        (b"a\xff", 1),
-        (b"\xe2\x82", 0),
-        (b"ab\xc0\xaf", 2),
-        (b"\xc3\xa9\xed\xa0\x80", 2),
-        (b"abc\xf4\x90\x80\x80", 3),
-        (b"\x80", 0),
-    ];
-    for (bytes, place) in rows {
+    for row in &BYTES_THAT_ARE_NO_TEXT {
+        let (bytes, place) = *row;
         let raw = raw_of(alloc, bytes)?;
         match PlainText::from_raw(alloc, &raw) {
             Err(RawErr::NotUtf8(at)) => assert_eq!(rt; at, place),
@@ -134,55 +138,64 @@ fn words(rt: HostRuntime) -> Result<(), Fail> {
     Ok(())
 }
 
+const MARKS: [(&str, &str); 6] = [
+    ("", ""),
+    ("a", "a"),
+    ("\u{feff}", ""),
+    ("\u{feff}a", "a"),
+    ("\u{feff}\u{feff}a", "\u{feff}a"),
+    ("a\u{feff}", "a\u{feff}"),
+];
+
 #[test]
 fn marks(rt: HostRuntime) {
-    for (text, rest) in [
-        ("", ""),
-        ("a", "a"),
-        ("\u{feff}", ""),
-        ("\u{feff}a", "a"),
-        ("\u{feff}\u{feff}a", "\u{feff}a"),
-        ("a\u{feff}", "a\u{feff}"),
-    ] {
+    for row in &MARKS {
+        let (text, rest) = *row;
         assert_eq!(rt; without_mark(text), rest, "of {text:?}");
     }
 }
 
+const NUMBERS: [(&[u8], Option<u32>, Option<u32>); 9] = [
+    (b"", None, None),
+    (b"0", Some(0), None),
+    (b"0041", Some(41), Some(0x41)),
+    (b"10fFfF", None, Some(0x10FFFF)),
+    (b"110000", Some(110_000), None),
+    (b"4294967295", Some(u32::MAX), None),
+    (b"4294967296", None, None),
+    (b"36893488147419103232", None, None),
+    (b"+41", None, None),
+];
+
 #[test]
 fn numbers(rt: HostRuntime) {
-    let rows: [(&[u8], Option<u32>, Option<u32>); 9] = [
-        (b"", None, None),
-        (b"0", Some(0), None),
-        (b"0041", Some(41), Some(0x41)),
-        (b"10fFfF", None, Some(0x10FFFF)),
-        (b"110000", Some(110_000), None),
-        (b"4294967295", Some(u32::MAX), None),
-        (b"4294967296", None, None),
-        (b"36893488147419103232", None, None),
-        (b"+41", None, None),
-    ];
-    for (text, ten, sixteen) in rows {
+    for row in &NUMBERS {
+        let (text, ten, sixteen) = *row;
         assert_eq!(rt; decimal(text, u32::MAX), ten, "of {text:?}");
         assert_eq!(rt; hexadecimal(text, 4, 6, 0x10FFFF), sixteen, "of {text:?}");
     }
 }
 
+const RAW_REFUSALS: [(RawErr, &str, Option<u32>); 3] = [
+    (RawErr::NotUtf8(7), "NotUtf8", Some(7)),
+    (RawErr::TooManyChars, "TooManyChars", None),
+    (RawErr::Memory, "Memory", None),
+];
+
+const EDIT_REFUSALS: [(EditErr, &str); 3] = [
+    (EditErr::Outside, "Outside"),
+    (EditErr::TooLong, "TooLong"),
+    (EditErr::Memory, "Memory"),
+];
+
 #[test]
 fn names_of_refusals(rt: HostRuntime) {
-    for (fault, label, place) in [
-        (RawErr::NotUtf8(7), "NotUtf8", Some(7)),
-        (RawErr::TooManyChars, "TooManyChars", None),
-        (RawErr::Memory, "Memory", None),
-    ] {
-        assert_eq!(rt; fault.label(), label);
-        assert_eq!(rt; fault.place(), place);
+    for (fault, label, place) in &RAW_REFUSALS {
+        assert_eq!(rt; fault.label(), *label);
+        assert_eq!(rt; fault.place(), *place);
     }
-    for (fault, label) in [
-        (EditErr::Outside, "Outside"),
-        (EditErr::TooLong, "TooLong"),
-        (EditErr::Memory, "Memory"),
-    ] {
-        assert_eq!(rt; fault.label(), label);
+    for (fault, label) in &EDIT_REFUSALS {
+        assert_eq!(rt; fault.label(), *label);
         assert_eq!(rt; fault.place(), None);
     }
     assert_eq!(rt; TextErr::TooManyChars.label(), "TooManyChars");

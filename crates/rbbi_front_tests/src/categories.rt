@@ -115,20 +115,22 @@ fn are_found(
     Ok(())
 }
 
+const LOOK_UPS: [(&str, &[(char, u16)]); 3] = [
+    (
+        "[a-c]; [b-d];",
+        &[('`', 0), ('a', 1), ('b', 2), ('c', 2), ('d', 3), ('e', 0)],
+    ),
+    (
+        "\\U0010FFFF;",
+        &[('\u{10FFFF}', 1), ('\u{10FFFE}', 0), ('\0', 0)],
+    ),
+    (".;", &[('\u{D7FF}', 1), ('\u{E000}', 1)]),
+];
+
 #[test]
 fn look_ups(rt: HostRuntime) -> Result<(), Fail> {
-    let rows: [(&str, &[(char, u16)]); 3] = [
-        (
-            "[a-c]; [b-d];",
-            &[('`', 0), ('a', 1), ('b', 2), ('c', 2), ('d', 3), ('e', 0)],
-        ),
-        (
-            "\\U0010FFFF;",
-            &[('\u{10FFFF}', 1), ('\u{10FFFE}', 0), ('\0', 0)],
-        ),
-        (".;", &[('\u{D7FF}', 1), ('\u{E000}', 1)]),
-    ];
-    for (text, wanted) in rows {
+    for row in &LOOK_UPS {
+        let (text, wanted) = *row;
         are_found(&rt, rt.alloc(), text, wanted)?;
     }
     Ok(())

@@ -1,12 +1,9 @@
 //! Rule files that were worked out by hand from the table of faults.
 ghost use Rattle.std.specs.Prelude.{◌≤◌, length};
 
-use crate::resolved::rules_in;
-use rbbi_lex::lex;
+use crate::resolved::{resolved, rules_in};
 use rbbi_props::PropTable;
-use rbbi_resolve::{Tree, resolve};
-use rbbi_text::count_characters;
-use rbbi_tree::parse;
+use rbbi_resolve::Tree;
 use std::alloc::{AllocError, Global};
 use std::test::Fail;
 
@@ -14,15 +11,12 @@ use std::test::Fail;
 fn outcome(alloc: Global, text: &str, ignore_dictionary: bool) -> Result<String, Fail>
     requires { length text.now ≤ 1000000 }
 {
-    let tokens = lex(alloc, text)?;
-    let end = count_characters(text);
-    let statements = parse(alloc, &tokens, end)?;
     let mut props = PropTable::new(alloc);
     props.add(
         "Kind",
         b"0061..0063 ; Low\n0064 ; High\nD800..DFFF ; Half\n",
     )?;
-    match resolve(alloc, &statements, end, &props, ignore_dictionary) {
+    match resolved(alloc, text, &props, ignore_dictionary)? {
         Ok(rules) => Ok(format!(in alloc;
             "{} {} {} {}",
             rules.len(),
@@ -166,29 +160,32 @@ const WORDS: &str = "!!chain;\n!!quoted_literals_only;\n$ALetter = [A-Za-z];\n$N
 $Mid     = ['];\n$MidNum  = [.,];\n$ALetter {200};\n$Numeric {100};\n$ALetter $ALetter {200};\n\
 $ALetter $Mid $ALetter {200};\n$Numeric $Numeric {100};\n$Numeric $MidNum $Numeric {100};\n.;";
 
+const RULES: [(&str, bool, &str); 11] = [
+    (WORDS, false, "7 0 13 5"),
+    ("$dictionary = [a]; .;", true, "1 0 1 1"),
+    ("!!quoted_literals_only; 'ab';", false, "1 0 2 2"),
+    ("$v = [a-c]; [$v-[b]] d;", false, "1 0 2 2"),
+    ("!!lookAheadHardBreak; !!forward; a;", false, "1 0 1 1"),
+    (
+        "$a = [b]; $c = $a; $d = \\p{L}; [$a $c $d];",
+        false,
+        "1 0 1 1",
+    ),
+    (
+        "\\p{Kind=Low} \\p{kind = high} [\\P{Kind=Low}];",
+        false,
+        "1 0 3 3",
+    ),
+    ("$v = [ab] x; $v $v | $v+;", false, "1 0 6 2"),
+    ("$unused = [a]; b / c;", false, "1 1 2 2"),
+    ("!!reverse; b; !!forward; a;", false, "1 0 1 1"),
+    ("!!reverse; $v = [ab]; !!forward; $v;", false, "1 0 1 1"),
+];
+
 #[test]
 fn rules(rt: HostRuntime) -> Result<(), Fail> {
-    for (text, ignore, want) in [
-        (WORDS, false, "7 0 13 5"),
-        ("$dictionary = [a]; .;", true, "1 0 1 1"),
-        ("!!quoted_literals_only; 'ab';", false, "1 0 2 2"),
-        ("$v = [a-c]; [$v-[b]] d;", false, "1 0 2 2"),
-        ("!!lookAheadHardBreak; !!forward; a;", false, "1 0 1 1"),
-        (
-            "$a = [b]; $c = $a; $d = \\p{L}; [$a $c $d];",
-            false,
-            "1 0 1 1",
-        ),
-        (
-            "\\p{Kind=Low} \\p{kind = high} [\\P{Kind=Low}];",
-            false,
-            "1 0 3 3",
-        ),
-        ("$v = [ab] x; $v $v | $v+;", false, "1 0 6 2"),
-        ("$unused = [a]; b / c;", false, "1 1 2 2"),
-        ("!!reverse; b; !!forward; a;", false, "1 0 1 1"),
-        ("!!reverse; $v = [ab]; !!forward; $v;", false, "1 0 1 1"),
-    ] {
+    for row in &RULES {
+        let (text, ignore, want) = *row;
         assert!(rt; text.len() < 1000);
         let found = outcome(rt.alloc(), text, ignore)?;
         assert_eq!(rt; found.as_str(), want, "in {text:?}");

@@ -1,7 +1,8 @@
 //! The files of the rule `a;` of both versions, whole and damaged.
 use rbbi_file::{read_table, write_table};
+use rbbi_table::Table;
 use rbbi_text::MOST_BYTES;
-use std::alloc::Global;
+use std::alloc::{AllocError, Global};
 use std::process::Abort;
 use std::test::Fail;
 
@@ -19,17 +20,27 @@ const FILE_2: [u8; 75] = [
     0, 0, 0, 0, 0, 0, 0, 0, 0, 2, 1, 0, 0, 0, 0, 0, 0, 0, 0, 0, 0x0F,
 ];
 
-/// The name of the answer, and the byte that it carries or 0. A table that was read from a file of
-/// version 2 is written as the bytes that it was read from.
-fn outcome(rt: &impl Abort, alloc: Global, bytes: &[u8]) -> Result<(String, u32), Fail> {
+/// A table that was read from a file of version 2 is written as the bytes that it was read from.
+fn check_written(
+    rt: &impl Abort,
+    alloc: Global,
+    table: &Table,
+    bytes: &[u8],
+) -> Result<(), AllocError> {
+    let written = write_table(alloc, table)?;
+    assert!(rt; bytes.len() > 7);
+    if bytes[7] == 2 {
+        assert_eq!(rt; written.as_slice(), bytes);
+    }
+    Ok(())
+}
+
+/// The name of the answer, and the byte that it carries or 0.
+fn outcome(rt: &impl Abort, alloc: Global, bytes: &[u8]) -> Result<(String, u32), AllocError> {
     assert!(rt; bytes.len() <= MOST_BYTES);
     match read_table(alloc, bytes) {
         Ok(table) => {
-            let written = write_table(alloc, &table)?;
-            assert!(rt; bytes.len() > 7);
-            if bytes[7] == 2 {
-                assert_eq!(rt; written.as_slice(), bytes);
-            }
+            check_written(rt, alloc, &table, bytes)?;
             Ok((String::from_str(alloc, "Ok")?, 0))
         }
         Err(error) => {
@@ -39,30 +50,32 @@ fn outcome(rt: &impl Abort, alloc: Global, bytes: &[u8]) -> Result<(String, u32)
     }
 }
 
+const CHANGED_BYTES: [((usize, u8), (usize, u8), &str, u32); 17] = [
+    ((0, 0x52), (0, 0x52), "Ok", 0),
+    ((0, 0), (0, 0), "BadMagic", 0),
+    ((7, 2), (7, 2), "Trailing", 75),
+    ((7, 3), (7, 3), "BadMagic", 0),
+    ((8, 0), (8, 0), "Trailing", 68),
+    ((8, 3), (8, 3), "Short", 81),
+    ((10, 4), (10, 4), "Short", 81),
+    ((30, 0), (30, 0), "BadRanges", 0),
+    ((40, 1), (40, 1), "BadLists", 0),
+    ((66, 3), (66, 3), "BadRows", 0),
+    ((56, 1), (56, 1), "BadRows", 0),
+    ((68, 2), (68, 2), "BadRows", 0),
+    ((18, 1), (68, 2), "BadFronts", 0),
+    ((80, 0x0E), (80, 0x0E), "BadSafe", 0),
+    ((80, 0x1F), (80, 0x1F), "BadSafe", 0),
+    ((18, 1), (18, 1), "Ok", 0),
+    ((78, 2), (78, 2), "Ok", 0),
+];
+
 /// One or two bytes are changed; if one is, it is named twice.
 #[test]
 fn changed_bytes(rt: HostRuntime) -> Result<(), Fail> {
     let alloc = rt.alloc();
-    let rows: [((usize, u8), (usize, u8), &str, u32); 17] = [
-        ((0, 0x52), (0, 0x52), "Ok", 0),
-        ((0, 0), (0, 0), "BadMagic", 0),
-        ((7, 2), (7, 2), "Trailing", 75),
-        ((7, 3), (7, 3), "BadMagic", 0),
-        ((8, 0), (8, 0), "Trailing", 68),
-        ((8, 3), (8, 3), "Short", 81),
-        ((10, 4), (10, 4), "Short", 81),
-        ((30, 0), (30, 0), "BadRanges", 0),
-        ((40, 1), (40, 1), "BadLists", 0),
-        ((66, 3), (66, 3), "BadRows", 0),
-        ((56, 1), (56, 1), "BadRows", 0),
-        ((68, 2), (68, 2), "BadRows", 0),
-        ((18, 1), (68, 2), "BadFronts", 0),
-        ((80, 0x0E), (80, 0x0E), "BadSafe", 0),
-        ((80, 0x1F), (80, 0x1F), "BadSafe", 0),
-        ((18, 1), (18, 1), "Ok", 0),
-        ((78, 2), (78, 2), "Ok", 0),
-    ];
-    for (first, second, wanted, place) in rows {
+    for row in &CHANGED_BYTES {
+        let (first, second, wanted, place) = *row;
         let mut bytes = FILE_1.to_vec(alloc)?;
         for (at, byte) in [first, second] {
             assert!(rt; at < bytes.len());
@@ -91,7 +104,7 @@ fn both_versions(rt: HostRuntime) -> Result<(), Fail> {
 }
 
 /// A file with one byte changed is refused or read, and one that is cut short is refused.
-fn is_damaged(rt: &impl Abort, alloc: Global, file: &[u8]) -> Result<(), Fail> {
+fn is_damaged(rt: &impl Abort, alloc: Global, file: &[u8]) -> Result<(), AllocError> {
     for at in 0..file.len() {
         for byte in [0, 1, 2, !file[at], 255] {
             let mut bytes = file.to_vec(alloc)?;
@@ -108,7 +121,7 @@ fn is_damaged(rt: &impl Abort, alloc: Global, file: &[u8]) -> Result<(), Fail> {
 }
 
 /// A file with one byte more is refused.
-fn is_too_long(rt: &impl Abort, alloc: Global, file: &[u8]) -> Result<(), Fail> {
+fn is_too_long(rt: &impl Abort, alloc: Global, file: &[u8]) -> Result<(), AllocError> {
     let mut longer = file.to_vec(alloc)?;
     longer.push(0)?;
     let (label, place) = outcome(rt, alloc, &longer)?;
@@ -117,10 +130,11 @@ fn is_too_long(rt: &impl Abort, alloc: Global, file: &[u8]) -> Result<(), Fail> 
     Ok(())
 }
 
+const DAMAGED_FILES: [&[u8]; 2] = [&FILE_1, &FILE_2];
+
 #[test]
 fn damaged_files(rt: HostRuntime) -> Result<(), Fail> {
-    let files: [&[u8]; 2] = [&FILE_1, &FILE_2];
-    for file in files {
+    for file in DAMAGED_FILES {
         is_damaged(&rt, rt.alloc(), file)?;
         is_too_long(&rt, rt.alloc(), file)?;
     }

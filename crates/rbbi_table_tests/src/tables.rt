@@ -61,7 +61,13 @@ fn searches<L: Ledger>(
     Ok(found)
 }
 
-/// Whether the searches in the table of these parts find what is wanted.
+/// What the searches in a text find.
+fn found_in(host: &HostRuntime, table: &Table, text: &str) -> Result<Vec<u32>, Fail> {
+    let plain = PlainText::new(host.alloc(), text)?;
+    searches::<Brand>(host, table, &plain, Blank::new(1))
+}
+
+/// Asserts that the searches in the table of these parts find what is wanted.
 fn finds(
     rt: &impl Abort,
     host: &HostRuntime,
@@ -69,10 +75,8 @@ fn finds(
     text: &str,
     wanted: &[u32],
 ) -> Result<(), Fail> {
-    let alloc = host.alloc();
-    let table = table_of(rt, alloc, sample)?;
-    let plain = PlainText::new(alloc, text)?;
-    let found = searches::<Brand>(host, &table, &plain, Blank::new(1))?;
+    let table = table_of(rt, host.alloc(), sample)?;
+    let found = found_in(host, &table, text)?;
     assert_eq!(rt; found.as_slice(), wanted, "in {text:?}");
     Ok(())
 }
@@ -187,34 +191,34 @@ fn bad_safe_pairs(rt: HostRuntime) -> Result<(), Fail> {
     is_refused(&rt, rt.alloc(), &each, "BadSafe")
 }
 
-#[test]
-fn ranges_and_lists_of_a_table(rt: HostRuntime) -> Result<(), Fail> {
-    let table = table_of(&rt, rt.alloc(), &BOTH)?;
+fn check_ranges_and_lists(rt: &impl Abort, table: &Table) {
     assert_eq!(rt; table.ranges(), 5);
     assert_eq!(rt; table.range(1).start, 0x61);
     assert_eq!(rt; table.lists(), 2);
     assert_eq!(rt; table.status_list(1), [7].as_slice());
-    Ok(())
 }
 
-#[test]
-fn rows_of_a_table(rt: HostRuntime) -> Result<(), Fail> {
-    let table = table_of(&rt, rt.alloc(), &BOTH)?;
+fn check_rows(rt: &impl Abort, table: &Table) {
     assert_eq!(rt; table.categories(), 4);
     assert_eq!(rt; table.slashes(), 2);
     assert_eq!(rt; table.rows(), 5);
     assert_eq!(rt; table.row(2).fronts, 3);
     assert_eq!(rt; table.step(2, 3), 4);
-    Ok(())
 }
 
-#[test]
-fn safe_pairs_of_a_table(rt: HostRuntime) -> Result<(), Fail> {
-    let table = table_of(&rt, rt.alloc(), &BOTH)?;
+fn check_safe_pairs(rt: &impl Abort, table: &Table) {
     assert_eq!(rt; table.categories(), 4);
     assert_eq!(rt; table.safe_count(), 14);
     assert!(rt; table.is_safe(1, 1));
     assert!(rt; !table.is_safe(1, 2));
+}
+
+#[test]
+fn parts_of_a_table(rt: HostRuntime) -> Result<(), Fail> {
+    let table = table_of(&rt, rt.alloc(), &BOTH)?;
+    check_ranges_and_lists(&rt, &table);
+    check_rows(&rt, &table);
+    check_safe_pairs(&rt, &table);
     Ok(())
 }
 

@@ -1,5 +1,5 @@
-use Rattle.rbbi_table_tests.proofs.tables.finds.Given as goal
+use Rattle.rbbi_table_tests.proofs.tables.found_in.Given as goal
 
 -- a ledger of its own
 abbrev pub ghosts-searches : goal.ghosts-searches
-ghosts-searches g a = record { name = a.blank.name; parts = a.blank.parts }
+ghosts-searches a = record { name = a.blank.name; parts = a.blank.parts }
