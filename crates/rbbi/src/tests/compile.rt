@@ -79,11 +79,13 @@ fn holds(files: &MemFiles, name: &str, bytes: &[u8]) -> bool {
     }
 }
 
+const FILES: [(&[u8], Option<&[u8]>); 2] = [(b"a;", Some(TABLE)), (b"(", None)];
+
 /// The table file is written, and not at all behind a fault.
 #[test]
 fn files(rt: HostRuntime) -> Result<(), Fail> {
-    let rows: [(&[u8], Option<&[u8]>); 2] = [(b"a;", Some(TABLE)), (b"(", None)];
-    for (rules, table) in rows {
+    for row in &FILES {
+        let (rules, table) = *row;
         let mut files = files_of(&rt, &[("r.txt", rules)])?;
         run_words(&rt, "compile r.txt b.tbl", &mut files)?;
         assert_eq!(rt; files.get("b.tbl"), table);
@@ -91,17 +93,19 @@ fn files(rt: HostRuntime) -> Result<(), Fail> {
     Ok(())
 }
 
+const HELD: [(&str, &[u8]); 2] = [("r.txt", b"a;"), ("x.txt", b"x")];
+
 /// A write that fails ends the run before anything goes out, and leaves the other files.
 #[test]
 fn failed_write(rt: HostRuntime) -> Result<(), Fail> {
-    let held: [(&str, &[u8]); 2] = [("r.txt", b"a;"), ("x.txt", b"x")];
-    let mut files = files_of(&rt, &held)?;
+    let mut files = files_of(&rt, &HELD)?;
     files.fail_at(2)?;
     let (status, out) = run_words(&rt, "compile r.txt b.tbl", &mut files)?;
     assert_eq!(rt; status, 7);
     assert_eq!(rt; files.calls(), 2);
     assert_eq!(rt; out.calls(), 0);
-    for (name, bytes) in held {
+    for row in &HELD {
+        let (name, bytes) = *row;
         assert!(rt; holds(&files, name, bytes));
     }
     Ok(())

@@ -124,7 +124,8 @@ pub(super) const FILTERS: &[Table] = &[
             // each character is turned once
             (
                 &[
-                    b"\xEF\xBB\xBF# marks\n\t\n0027\t;0020 # a space\r\n  0061 ; 00041\n01D11E;61\n",
+                    b"\xEF\xBB\xBF# marks\n\t\n0027\t;0020 # a space\r\n  0061 ; 00041\n\
+                    01D11E;61\n",
                     LETTERS,
                     b"b'\xF0\x9D\x84\x9Eba",
                 ],
@@ -133,7 +134,8 @@ pub(super) const FILTERS: &[Table] = &[
             ),
             (
                 &[
-                    b"\xEF\xBB\xBF# marks\n\t\n0027\t;0020 # a space\r\n  0061 ; 00041\n01D11E;0061",
+                    b"\xEF\xBB\xBF# marks\n\t\n0027\t;0020 # a space\r\n  0061 ; 00041\n\
+                    01D11E;0061",
                     LETTERS,
                     b"b'\xF0\x9D\x84\x9Eba",
                 ],

@@ -1,7 +1,6 @@
 -- What is known of the marks of a test between one boundary and the next.
 use Rattle.std.specs.Prelude.{◌≡◌, ◌≢◌, ℕ, ◌-◌, ◌<◌, ◌≤◌, slice_index_or, false, ◌==◌}
 use Rattle.rbbi_conform.specs.Tests.{Test}
-use Rattle.rbbi_conform.specs.declared.verdict.Verdict.{Verdict}
 
 -- the marks past one place and up to another are right, where the first boundary past the one is known
 abbrev pub AreRight : Test → ℕ → ℕ → ℕ → Type 0

@@ -68,7 +68,8 @@ pub(crate) const ROWS: &[Row] = &[
         "",
         "dictionary:1:1: error: Dictionary: dictionaries aren't supported\n\
          $dictionary = [a]; a;\n^\n\
-         Take the assignment away, or give --ignore-dictionary, by which it is one like any other.\n",
+         Take the assignment away, or give --ignore-dictionary, by which it is one like any \
+         other.\n",
     ),
     (
         "--check~a~--prop~R=rows",
