@@ -6,10 +6,18 @@ use std::alloc::{AllocError, Global};
 use std::process::Abort;
 use std::test::Fail;
 
-/// The first word that tells two tables apart; the empty one if none does.
-fn word_between(alloc: Global, these: &Table, those: &Table) -> Result<String, AllocError> {
+/// The first word that tells two tables apart, which isn't empty; the empty one if none does.
+fn word_between(
+    rt: &impl Abort,
+    alloc: Global,
+    these: &Table,
+    those: &Table,
+) -> Result<String, AllocError> {
     match differ(alloc, these, those)? {
-        Some(word) => String::from_str(alloc, word.as_str()),
+        Some(word) => {
+            assert!(rt; !word.as_str().is_empty());
+            String::from_str(alloc, word.as_str())
+        }
         None => Ok(String::new(alloc)),
     }
 }
@@ -23,7 +31,7 @@ fn differs_from(
     wanted: &str,
 ) -> Result<(), TableErr> {
     let that = table_of(rt, alloc, that)?;
-    let found = word_between(alloc, this, &that)?;
+    let found = word_between(rt, alloc, this, &that)?;
     assert_eq!(rt; found.as_str(), wanted);
     Ok(())
 }
