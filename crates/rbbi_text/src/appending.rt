@@ -5,14 +5,14 @@ ghost use Rattle.rbbi_text.specs.Appending.{Appends};
 use itoa::Buffer;
 use std::alloc::AllocError;
 
-/// Appends bytes, or none where memory runs out.
+/// Appends bytes. Where memory runs out, a prefix of them was appended.
 pub fn append(bytes: &[u8], out: &mut Vec<u8>) -> Result<(), AllocError>
     ensures { Appends out.old.items bytes.now result out.new.items }
 {
     out.extend_from_slice(bytes)
 }
 
-/// Appends a number in decimal. After the refusal a front of it was appended.
+/// Appends a number in decimal. Where memory runs out, a prefix of it was appended.
 pub fn append_number(number: u32, out: &mut Vec<u8>) -> Result<(), AllocError>
     ensures { Appends out.old.items (decimal number) result out.new.items }
 {
