@@ -2,7 +2,6 @@
 ghost use Rattle.std.specs.Prelude.{◌≡◌, ◌<◌, IfOk, length};
 
 use crate::resolved::rules_in;
-use rbbi_bits::has;
 use rbbi_cats::partition;
 use rbbi_positions::{Positions, positions};
 use std::alloc::{AllocError, Global};
@@ -40,24 +39,24 @@ fn show_leaf(
 {
     show_number(shown, alloc, leaf)?;
     let marks = [
-        (found.firsts(), "^"),
-        (found.lasts(), "$"),
-        (found.front_lasts(), "/"),
+        (found.is_first(leaf), "^"),
+        (found.is_last(leaf), "$"),
+        (found.is_front_last(leaf), "/"),
     ];
-    for (row, mark) in marks {
-        if has(row, leaf as usize) {
+    for (is_marked, mark) in marks {
+        if is_marked {
             shown.push_str(mark)?;
         }
     }
     shown.push_str(":")?;
     for category in 0..categories {
-        if has(found.readers(category), leaf as usize) {
+        if found.reads(leaf, category) {
             show_number(shown, alloc, category as u32)?;
         }
     }
     shown.push_str(">")?;
     for next in 0..found.leaves() {
-        if has(found.followers(leaf), next as usize) {
+        if found.follows(leaf, next) {
             show_number(shown, alloc, next)?;
         }
     }

@@ -1,9 +1,11 @@
 //! Positions and their marks.
 ghost use Rattle.std.specs.Prelude.{◌≡◌, ◌<◌, ◌+◌, ◌/◌, Some, length, slice_get, slice_index};
 ghost use Rattle.std.specs.Option.{option_map};
+ghost use Rattle.rbbi_bits.specs.BitRows.{row_bit};
 ghost use Rattle.rbbi_positions.specs.PositionMarks.{followers_in, readers_in};
 
 use crate::rule_mark::Mark;
+use rbbi_bits::has;
 use std::marker::Model;
 
 /// The leaves of all rules, numbered from 0 in the order of the file, a rule's front before its
@@ -145,5 +147,47 @@ impl Positions {
     {
         let from = category as usize * self.words;
         &self.readers[from..from + self.words]
+    }
+
+    /// Whether some list that a rule spells begins with the position.
+    pub fn is_first(&self, leaf: u32) -> bool
+        requires { leaf < self.now.leaves }
+        ensures { result ≡ row_bit self.now.firsts leaf }
+    {
+        has(self.firsts(), leaf as usize)
+    }
+
+    /// Whether some list that a rule spells ends with the position.
+    pub fn is_last(&self, leaf: u32) -> bool
+        requires { leaf < self.now.leaves }
+        ensures { result ≡ row_bit self.now.lasts leaf }
+    {
+        has(self.lasts(), leaf as usize)
+    }
+
+    /// Whether some list that a rule's front spells ends with the position.
+    pub fn is_front_last(&self, leaf: u32) -> bool
+        requires { leaf < self.now.leaves }
+        ensures { result ≡ row_bit self.now.front_lasts leaf }
+    {
+        has(self.front_lasts(), leaf as usize)
+    }
+
+    /// Whether the position `then` stands right behind this one in some list that a rule spells.
+    pub fn follows(&self, leaf: u32, then: u32) -> bool
+        requires leaf { leaf < self.now.leaves }
+        requires next { then < self.now.leaves }
+        ensures { result ≡ row_bit (followers_in self.now leaf) then }
+    {
+        has(self.followers(leaf), then as usize)
+    }
+
+    /// Whether the set of the position's leaf holds the code points of a category.
+    pub fn reads(&self, leaf: u32, category: u16) -> bool
+        requires leaf { leaf < self.now.leaves }
+        requires category { category < self.now.categories }
+        ensures { result ≡ row_bit (readers_in self.now category) leaf }
+    {
+        has(self.readers(category), leaf as usize)
     }
 }
