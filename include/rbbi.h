@@ -28,8 +28,10 @@
  * most 16,777,216 characters.
  *
  * ANSWERS. Each call but the close calls answers an int: RBBI_OK, RBBI_DONE, or an error. An error
- * leaves every handle and every number as it was. No call ends the process, writes or reads a file,
- * or waits. No question takes memory: only opening, editing, compiling, loading and writing do.
+ * leaves every handle and every number as it was, but that RBBI_FAULT writes the fault, and RBBI_ROOM
+ * what has room and the length. No call ends the process, writes or reads a file, or waits. Opening,
+ * editing, compiling, loading and writing take memory. No question does: that is in no contract, but
+ * by reading the code.
  */
 #ifndef RBBI_H
 #define RBBI_H
@@ -89,7 +91,7 @@ enum {
 /* A fault of rules, a property file or a table file, as RBBI_FAULT tells it. docs/rules.md and
    docs/formats.md have all names. */
 typedef struct rbbi_fault {
-    char name[40];   /* its name, as "UnknownName", ended by a zero */
+    char name[40];   /* its name, as "UnknownProperty", ended by a zero */
     uint32_t line;   /* its line, from 1, or 0 where it has none */
     uint32_t column; /* its column, in characters from 1, or 0 where it has none */
     uint32_t byte;   /* its byte, from 0, or UINT32_MAX where it has none */

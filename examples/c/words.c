@@ -46,10 +46,12 @@ int main(int count, char **words) {
     char *rules = bytes_of(words[1], &length);
     rbbi_table table = RBBI_INIT;
     rbbi_fault fault;
-    if (rbbi_table_compile(&table, NULL, rules, length, 0, &fault) == RBBI_FAULT) {
+    int answer = rbbi_table_compile(&table, NULL, rules, length, 0, &fault);
+    if (answer == RBBI_FAULT) {
         fprintf(stderr, "words: %u:%u: %s\n", fault.line, fault.column, fault.name);
         return 1;
     }
+    checked(answer);
     char *text = bytes_of(words[2], &length);
     rbbi_session session = RBBI_INIT;
     checked(rbbi_session_open(&session, &table, text, length, RBBI_UTF8));
