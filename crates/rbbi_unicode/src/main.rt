@@ -1,0 +1,128 @@
+//! The program `rbbi_unicode`: property files in the form of Unicode's, from the properties that the
+//! kit has, and the boundaries that the kit finds.
+//!
+//! - With no words: a line for each file, its name and from how many runs of code points it is made.
+//! - With the name of a file: that file.
+//! - With `grapheme`, `word` or `sentence`, and the path of a text: a line for each segment, the byte
+//!   where it starts.
+#![tactic(auto)]
+
+mod files;
+mod values;
+
+use files::{PropertyFile, files};
+use std::io::{self, BufWriter, Write};
+use std::process::ExitCode;
+use std::{env, fs};
+use ucd_table::UNICODE_VERSION;
+use unicode_segmentation::UnicodeSegmentation;
+
+/// Writes a line for each file.
+fn list<W: Write>(out: &mut W) -> io::Result<()> {
+    for file in &files() {
+        writeln!(out, "{} {}", file.name, file.runs.len())?;
+    }
+    Ok(())
+}
+
+/// Writes a file: what it is, and a row for each run of a value that is listed.
+fn write_file<W: Write>(out: &mut W, file: &PropertyFile) -> io::Result<()> {
+    let (major, minor, update) = UNICODE_VERSION;
+    writeln!(
+        out,
+        "# {} of Unicode {major}.{minor}.{update}, modified: it has no names",
+        file.name
+    )?;
+    writeln!(
+        out,
+        "# of characters, and neighbouring ranges of one value are one range."
+    )?;
+    writeln!(
+        out,
+        "# Made by bin/make-unicode. The licence of the data is LICENSE-UNICODE."
+    )?;
+    if !file.unlisted.is_empty() {
+        writeln!(out, "# @missing: 0000..10FFFF; {}", file.unlisted)?;
+    }
+    let mut first = 0;
+    for run in file.runs {
+        let end = run / 2048;
+        let value = file
+            .values
+            .get((run % 2048) as usize)
+            .copied()
+            .unwrap_or("");
+        if value != file.unlisted && first < end {
+            let last = end - 1;
+            if first == last {
+                writeln!(out, "{first:04X} ; {value}")?;
+            } else {
+                writeln!(out, "{first:04X}..{last:04X} ; {value}")?;
+            }
+        }
+        first = end;
+    }
+    Ok(())
+}
+
+/// Writes the start of each segment of a text, in bytes, and says whether there are such segments.
+fn write_starts<W: Write>(out: &mut W, kind: &str, text: &str) -> io::Result<bool> {
+    match kind {
+        "grapheme" => {
+            for (start, _) in text.grapheme_indices(true) {
+                writeln!(out, "{start}")?;
+            }
+        }
+        "word" => {
+            for (start, _) in text.split_word_bound_indices() {
+                writeln!(out, "{start}")?;
+            }
+        }
+        "sentence" => {
+            for (start, _) in text.split_sentence_bound_indices() {
+                writeln!(out, "{start}")?;
+            }
+        }
+        _ => return Ok(false),
+    }
+    Ok(true)
+}
+
+/// Writes what the words ask for, and says whether they ask for anything.
+fn answer<W: Write>(rt: &HostRuntime, out: &mut W, words: &[String]) -> io::Result<bool> {
+    match words {
+        [] => {
+            list(out)?;
+            Ok(true)
+        }
+        [name] => {
+            for file in &files() {
+                if file.name == name.as_str() {
+                    write_file(out, file)?;
+                    return Ok(true);
+                }
+            }
+            Ok(false)
+        }
+        [kind, path] => {
+            let text = fs::read_to_string(rt, path.as_str())?;
+            write_starts(out, kind.as_str(), text.as_str())
+        }
+        _ => Ok(false),
+    }
+}
+
+fn main(rt: HostRuntime) -> io::Result<ExitCode> {
+    let mut words = Vec::new(rt.alloc());
+    for word in env::args(&rt)?.skip(1) {
+        words.push(word)?;
+    }
+    let mut out = BufWriter::new(rt.alloc(), io::writer(&rt))?;
+    let is_answered = answer(&rt, &mut out, &words)?;
+    out.flush()?;
+    if !is_answered {
+        eprintln!(rt; "usage: rbbi_unicode [FILE | grapheme TEXT | word TEXT | sentence TEXT]")?;
+        return Ok(ExitCode::from(2));
+    }
+    Ok(ExitCode::SUCCESS)
+}
