@@ -5,7 +5,7 @@ import subprocess
 
 import icu_rules
 import inputs
-from compare import options
+from files import options
 from measure import measure
 
 NOT_BUILT = 'not built yet'
@@ -109,7 +109,7 @@ class Bench:
 
     def rules(self, name):
         """The path of a rule file of the repository, its options, and the path of ICU's version."""
-        folder = 'examples' if name in ('letters', 'words') else 'rules'
+        folder = 'examples' if name in ('letters', 'words') else 'rules/15.0'
         path = os.path.join(self.top, folder, f'{name}.rules')
         with open(path, encoding='utf-8') as file:
             theirs = self.file(f'{name}.icu', icu_rules.translate(file.read()))

@@ -1,22 +1,26 @@
 #!/usr/bin/env python3
 """Compares the rule files of this folder with plain models of the annexes that they render.
 
-    compare.py [--data FOLDER] [--texts N] [--seed N] [--batch N]
-               [--only NAME [--classes CLASS,..]] [COMMAND WORD..]
+    compare.py [--15.0] [--data FOLDER] [--tests FOLDER] [--texts N] [--seed N] [--batch N]
+               [--only NAME [--classes CLASS,..]] [--kit PROGRAM] [COMMAND WORD..]
 
-First each model is run over Unicode's test file. Then N random texts of each of two sorts are broken
-by the model and by the engine, and each boundary and status that differs is told: texts of characters
-drawn evenly over the classes of the annex's property, and texts drawn evenly over a few of them, or
-over those that `--classes` names.
+First each model is run over Unicode's test file of 15.0, which --tests has, and must differ where
+README.md lists a line as changed since. Then N random texts of each of two sorts are broken by the
+model and by the engine, and each boundary and status that differs is told: texts of characters drawn
+evenly over the classes of the annex's property, and texts drawn evenly over a few of them, or over
+those that `--classes` names.
 
 The engine is a command with words, `bin/rbbi breaks` where none is given. It gets the options
 `--prop NAME=FILE` that the rule file's head names, the rule file and a text file, and writes a line
 `PLACE STATUS,..` for each boundary. Many texts stand in one file, each with a line feed behind it:
-in all four annexes nothing in front of a line feed counts behind it.
+in all four annexes nothing in front of a line feed counts behind it. With --kit the program that
+crates/rbbi_unicode makes breaks the texts too, by the kit's `unicode_segmentation`, but for lines.
 
-FOLDER holds the Unicode Character Database, 15.0. The status is 1 where anything differs.
+The data are those of unicode/. With --15.0 the rules and models are those of Unicode 15.0, and FOLDER
+holds its data. The status is 1 where anything differs.
 """
 import argparse
+import itertools
 import os
 import random
 import subprocess
@@ -24,41 +28,29 @@ import sys
 import tempfile
 
 sys.dont_write_bytecode = True
+import files  # noqa: E402
 import models  # noqa: E402
 
-HERE = os.path.dirname(os.path.abspath(__file__))
 LINE_FEED = 10
 
 
-def options(rules, folder):
-    """The options that the head of a rule file asks for."""
-    words = []
-    with open(rules, encoding='utf-8') as lines:
-        for line in lines:
-            if line.startswith('#   --prop '):
-                name, _, file = line[len('#   --prop '):].strip().partition('=')
-                words += ['--prop', f'{name}={os.path.join(folder, file)}']
-    return words
-
-
-def check_tests(model, folder):
-    """Runs a model over Unicode's test file, and returns how many tests differ."""
-    name = model.name.capitalize()
-    passed = failed = 0
-    with open(os.path.join(folder, f'auxiliary/{name}BreakTest.txt'), encoding='utf-8') as lines:
+def check_tests(model, arguments):
+    """Runs a model over Unicode's test file, and returns how many tests come out as they must not."""
+    changed = set() if arguments.is_15 else files.changed_tests(model.name)
+    tests = wrong = 0
+    with open(files.tests_of(model.name, arguments.tests), encoding='utf-8') as lines:
         for number, line in enumerate(lines, 1):
             words = line.split('#')[0].split()
             if not words:
                 continue
             text = [int(word, 16) for word in words[1::2]]
             marks = [0] + [i for i, mark in enumerate(words[2::2], 1) if mark == '÷']
-            if model.boundaries(text) == marks:
-                passed += 1
-            else:
-                failed += 1
-                print(f'{model.name}: the model differs from line {number} of the tests')
-    print(f'{model.name}: model over the test file: passed {passed} failed {failed}')
-    return failed
+            tests += 1
+            if (model.boundaries(text) == marks) == (number in changed):
+                wrong += 1
+                print(f'{model.name}: line {number} of the tests comes out as it must not')
+    print(f'{model.name}: model over the tests: {tests}, of which changed {len(changed)} wrong {wrong}')
+    return wrong
 
 
 def draw_text(model, source, few, classes=()):
@@ -115,11 +107,30 @@ def tell(name, texts, found, wanted):
     return differing
 
 
+def check_kit(name, program, texts, folder, wanted):
+    """Compares the kit's boundaries with the model's, in bytes, and returns how many texts differ."""
+    words = [program, name, os.path.join(folder, 'texts')]
+    run = subprocess.run(words, stdout=subprocess.PIPE, check=True)
+    found = {int(line) for line in run.stdout.split()}
+    sizes = [len(chr(code).encode('utf-8')) for text in texts for code in text]
+    places = list(itertools.accumulate(sizes, initial=0))
+    ends, differing = {place for place, _ in wanted}, 0
+    start = 0
+    for text in texts:
+        at = range(start, start + len(text))
+        if any((place in ends) != (places[place] in found) for place in at):
+            differing += 1
+            print(f'{name}: the kit differs: ' + ' '.join(f'{code:04X}' for code in text))
+        start += len(text)
+    return differing
+
+
 def check_texts(model, command, arguments):
     """Compares an engine with a model over random texts, and returns how many texts differ."""
-    rules = os.path.join(HERE, f'{model.name}.rules')
-    command = command + options(rules, arguments.data) + [rules]
-    differing = 0
+    rules = files.rules_of(model.name, arguments.is_15)
+    command = command + files.options(rules, arguments.data) + [rules]
+    has_kit = arguments.kit and model.name != 'line' and not arguments.is_15
+    differing = by_kit = 0
     with tempfile.TemporaryDirectory() as folder:
         for few in (False, True):
             source = random.Random(f'{arguments.seed} {model.name} {few}')
@@ -130,27 +141,35 @@ def check_texts(model, command, arguments):
                 found, wanted = run_engine(command, texts, folder), expected(model, texts)
                 if found != wanted:
                     differing += tell(model.name, texts, found, wanted)
+                if has_kit:
+                    by_kit += check_kit(model.name, arguments.kit, texts, folder, wanted)
                 left -= count
     print(f'{model.name}: rules against model: texts {2 * arguments.texts} differing {differing}')
-    return differing
+    if has_kit:
+        print(f'{model.name}: kit against model: texts {2 * arguments.texts} differing {by_kit}')
+    return differing + by_kit
 
 
 def main():
     parser = argparse.ArgumentParser(usage=__doc__.split('\n\n')[1].strip())
-    parser.add_argument('--data', default='/usr/share/unicode')
+    parser.add_argument('--15.0', dest='is_15', action='store_true')
+    parser.add_argument('--data')
+    parser.add_argument('--tests', default='/usr/share/unicode')
     parser.add_argument('--texts', type=int, default=100000)
     parser.add_argument('--seed', type=int, default=1)
     parser.add_argument('--batch', type=int, default=10000)
     parser.add_argument('--only', default='')
     parser.add_argument('--classes', default=(), type=lambda word: word.split(','))
+    parser.add_argument('--kit')
     parser.add_argument('command', nargs=argparse.REMAINDER)
     arguments = parser.parse_args()
-    command = arguments.command or [os.path.join(HERE, '..', 'bin', 'rbbi'), 'breaks']
+    arguments.data = arguments.data or (arguments.tests if arguments.is_15 else files.DATA)
+    command = arguments.command or [os.path.join(files.HERE, '..', 'bin', 'rbbi'), 'breaks']
     differing = 0
     for make in models.MODELS:
         if arguments.only in ('', make.__name__):
-            model = make(arguments.data)
-            differing += check_tests(model, arguments.data)
+            model = make(arguments.data, arguments.is_15)
+            differing += check_tests(model, arguments)
             if arguments.texts:
                 differing += check_texts(model, command, arguments)
     sys.exit(1 if differing else 0)

@@ -1,4 +1,4 @@
-"""Plain models of the boundary rules of UAX #29 and UAX #14, Unicode 15.0.
+"""Plain models of the boundary rules of UAX #29 and UAX #14, as of Unicode 15.0 and of 18.0.
 
 Each annex is a list of rules as it is published: what stands before a place, whether there is a
 boundary (÷) or none (×), and what stands behind. The first rule that fits decides. A text becomes a
@@ -6,12 +6,16 @@ string with one letter for each character, and a rule a regular expression over 
 here is fast, and nothing knows of rule files.
 """
 import bisect
-import os
 import re
+
+from files import find
 
 # A line `NAME = CLASS CLASS ..` names several classes by one word. A line `RULE X CLASSES* → X` says
 # what counts with the character before it, and `RULE CLASSES → CLASS` what the rest of it counts as;
 # the rules in front of these lines see the text as it is, and those behind them what is left of it.
+
+# A class in brackets is `[^ A B]`, any other than these, `[A & B]`, both, or `[A - B]`, the first and
+# not the second.
 
 GRAPHEME = '''
 GB3    CR × LF
@@ -23,6 +27,7 @@ GB8    (LVT | T) × T
 GB9    × (Extend | ZWJ)
 GB9a   × SpacingMark
 GB9b   Prepend ×
+GB9c   InCB_Linker InCB_Extend* × InCB_Consonant
 GB11   ExtPict Extend* ZWJ × ExtPict
 GB12   sot (RI RI)* RI × RI
 GB13   [^ RI] (RI RI)* RI × RI
@@ -73,7 +78,7 @@ SB11   SATerm Close* Sp* ParaSep? ÷
 SB998  ×
 '''
 
-LINE = '''
+LINE_15 = '''
 LB4    BK ÷
 LB5    CR × LF
 LB5    (CR | LF | NL) ÷
@@ -121,12 +126,80 @@ LB27   (JL | JV | JT | H2 | H3) × PO
 LB27   PR × (JL | JV | JT | H2 | H3)
 LB28   (AL | HL) × (AL | HL)
 LB29   IS × (AL | HL)
-LB30   (AL | HL | NU) × OPnarrow
-LB30   CPnarrow × (AL | HL | NU)
+LB30   (AL | HL | NU) × [OP - EastAsian]
+LB30   [CP - EastAsian] × (AL | HL | NU)
 LB30a  sot (RI RI)* RI × RI
 LB30a  [^ RI] (RI RI)* RI × RI
 LB30b  EB × EM
-LB30b  UnassignedPict × EM
+LB30b  [ExtPict & Cn] × EM
+LB31   ÷
+'''
+
+# As they stand since Unicode 17.0. Circle is U+25CC.
+LINE = '''
+LB4    BK ÷
+LB5    CR × LF
+LB5    (CR | LF | NL) ÷
+LB6    × (BK | CR | LF | NL)
+LB7    × (SP | ZW)
+LB8    ZW SP* ÷
+LB8a   ZWJ ×
+LB9    [^ BK CR LF NL SP ZW] (CM | ZWJ)* → X
+LB10   (CM | ZWJ) → AL
+LB11   × WJ
+LB11   WJ ×
+LB12   GL ×
+LB12a  [^ SP BA HY HH] × GL
+LB13   × (CL | CP | EX | SY)
+LB14   OP SP* ×
+LB15a  (sot | BK | CR | LF | NL | OP | QU | GL | SP | ZW) [QU & Pi] SP* ×
+LB15b  × [QU & Pf] (SP | GL | WJ | CL | QU | CP | EX | IS | SY | BK | CR | LF | NL | ZW | eot)
+LB15c  SP ÷ IS NU
+LB15d  × IS
+LB16   (CL | CP) SP* × NS
+LB17   B2 SP* × B2
+LB18   SP ÷
+LB19   × [QU - Pi]
+LB19   [QU - Pf] ×
+LB19a  [^ EastAsian] × QU
+LB19a  × QU ([^ EastAsian] | eot)
+LB19a  QU × [^ EastAsian]
+LB19a  (sot | [^ EastAsian]) QU ×
+LB20   ÷ CB
+LB20   CB ÷
+LB20a  (sot | BK | CR | LF | NL | SP | ZW | CB | GL) (HY | HH) × (AL | HL)
+LB21   × (BA | HH | HY | NS)
+LB21   BB ×
+LB21a  HL (HY | HH) × [^ HL]
+LB21b  SY × HL
+LB22   × IN
+LB23   (AL | HL) × NU
+LB23   NU × (AL | HL)
+LB23a  PR × (ID | EB | EM)
+LB23a  (ID | EB | EM) × PO
+LB24   (PR | PO) × (AL | HL)
+LB24   (AL | HL) × (PR | PO)
+LB25   NU (SY | IS)* (CL | CP)? × (PO | PR)
+LB25   (PO | PR) × OP IS? NU
+LB25   (PO | PR | HY | IS) × NU
+LB25   NU (SY | IS)* × NU
+LB26   JL × (JL | JV | H2 | H3)
+LB26   (JV | H2) × (JV | JT)
+LB26   (JT | H3) × JT
+LB27   (JL | JV | JT | H2 | H3) × PO
+LB27   PR × (JL | JV | JT | H2 | H3)
+LB28   (AL | HL) × (AL | HL)
+LB28a  AP × (AK | Circle | AS)
+LB28a  (AK | Circle | AS) × (VF | VI)
+LB28a  (AK | Circle | AS) VI × (AK | Circle)
+LB28a  (AK | Circle | AS) × (AK | Circle | AS) VF
+LB29   IS × (AL | HL)
+LB30   (AL | HL | NU) × [OP - EastAsian]
+LB30   [CP - EastAsian] × (AL | HL | NU)
+LB30a  sot (RI RI)* RI × RI
+LB30a  [^ RI] (RI RI)* RI × RI
+LB30b  EB × EM
+LB30b  [ExtPict & Cn] × EM
 LB31   ÷
 '''
 
@@ -136,7 +209,7 @@ class Property:
 
     def __init__(self, folder, name, otherwise='', only=None):
         self.rows = []
-        with open(os.path.join(folder, name), encoding='utf-8') as lines:
+        with open(find(folder, name), encoding='utf-8') as lines:
             for line in lines:
                 fields = [field.strip() for field in line.split('#')[0].split(';')]
                 if len(fields) > 1 and only in (None, fields[-1]):
@@ -164,10 +237,10 @@ class Model:
     annex is about, by which random texts are drawn; the rules speak of the others.
     """
 
-    def __init__(self, name, text, properties, classes_of, statuses_of):
+    def __init__(self, name, text, properties, classes_of, statuses_of, more_cuts=()):
         self.name = name
         self.statuses_of = statuses_of
-        cuts = set().union(*(known.cuts() for known in properties)) | {0, 0xD800, 0xE000}
+        cuts = set(more_cuts).union(*(known.cuts() for known in properties)) | {0, 0xD800, 0xE000}
         self.cuts = sorted(cut for cut in cuts if cut < 0x110000)
         self.kinds = [classes_of(cut) for cut in self.cuts]
         self.letters = {}               # the letter that stands for each tuple of classes
@@ -217,12 +290,17 @@ class Model:
         """The regular expression of one side of a rule."""
         def one(found):
             word = found[0]
-            if word == 'sot':
-                return '^'
+            if word in ('sot', 'eot'):
+                return '^' if word == 'sot' else '$'
             if word.startswith('[^'):
                 return '[^|' + self.members(*word[2:-1].split()) + ']'
-            return '[' + self.members(word) + ']'
-        return re.sub(r'\[\^[^]]*\]|\w+', one, side).replace(' ', '')
+            first, sign, second = re.fullmatch(r'\[?(\w+)(?: ([&-]) (\w+)\])?', word).groups()
+            kept = self.members(first)
+            if sign:
+                other = self.members(second)
+                kept = ''.join(it for it in kept if (it in other) == (sign == '&'))
+            return '[' + kept + ']'
+        return re.sub(r'\[[^]]*\]|\w+', one, side).replace(' ', '')
 
     def classes(self, code):
         return self.kinds[bisect.bisect_right(self.cuts, code) - 1]
@@ -308,20 +386,26 @@ def line_statuses(segment):
     return [100] if segment[-1][0] in ('BK', 'CR', 'LF', 'NL') else [0]
 
 
-def grapheme(folder):
-    breaks = Property(folder, 'auxiliary/GraphemeBreakProperty.txt', 'Other')
-    emoji = Property(folder, 'emoji/emoji-data.txt', only='Extended_Pictographic')
+def grapheme(folder, is_15=False):
+    breaks = Property(folder, 'GraphemeBreakProperty.txt', 'Other')
+    emoji = Property(folder, 'emoji-data.txt', only='Extended_Pictographic')
+    conjunct = None if is_15 else Property(folder, 'DerivedCoreProperties.txt')
+    rules = '\n'.join(line for line in GRAPHEME.split('\n') if not (is_15 and 'InCB' in line))
 
     def classes_of(code):
         value = breaks.of(code)
         name = 'RI' if value == 'Regional_Indicator' else value
-        return (value, name) + (('ExtPict',) if emoji.of(code) else ())
-    return Model('grapheme', GRAPHEME, [breaks, emoji], classes_of, no_statuses)
+        kinds = (value, name) + (('ExtPict',) if emoji.of(code) else ())
+        if is_15 or conjunct.of(code) not in ('Linker', 'Extend', 'Consonant'):
+            return kinds
+        return (f'{value} {conjunct.of(code)}', name, f'InCB_{conjunct.of(code)}') + kinds[2:]
+    return Model('grapheme', rules, [breaks, emoji] + ([] if is_15 else [conjunct]), classes_of,
+                 no_statuses)
 
 
-def word(folder):
-    breaks = Property(folder, 'auxiliary/WordBreakProperty.txt', 'Other')
-    emoji = Property(folder, 'emoji/emoji-data.txt', only='Extended_Pictographic')
+def word(folder, is_15=False):
+    breaks = Property(folder, 'WordBreakProperty.txt', 'Other')
+    emoji = Property(folder, 'emoji-data.txt', only='Extended_Pictographic')
     scripts = Property(folder, 'Scripts.txt')
 
     def classes_of(code):
@@ -333,35 +417,41 @@ def word(folder):
     return Model('word', WORD, [breaks, emoji, scripts], classes_of, word_statuses)
 
 
-def sentence(folder):
-    breaks = Property(folder, 'auxiliary/SentenceBreakProperty.txt', 'Other')
+def sentence(folder, is_15=False):
+    breaks = Property(folder, 'SentenceBreakProperty.txt', 'Other')
 
     def classes_of(code):
         return (breaks.of(code),) * 2
     return Model('sentence', SENTENCE, [breaks], classes_of, sentence_statuses)
 
 
-def line(folder):
+def line(folder, is_15=False):
     breaks = Property(folder, 'LineBreak.txt', 'XX')
     widths = Property(folder, 'EastAsianWidth.txt')
-    general = Property(folder, 'extracted/DerivedGeneralCategory.txt')
-    emoji = Property(folder, 'emoji/emoji-data.txt', only='Extended_Pictographic')
+    general = Property(folder, 'DerivedGeneralCategory.txt')
+    emoji = Property(folder, 'emoji-data.txt', only='Extended_Pictographic')
 
     def classes_of(code):
         value = name = breaks.of(code)
+        category = general.of(code)
         if value in ('AI', 'SG', 'XX'):                         # LB1
             name = 'AL'
         elif value == 'SA':
-            name = 'CM' if general.of(code) in ('Mn', 'Mc') else 'AL'
+            name = 'CM' if category in ('Mn', 'Mc') else 'AL'
         elif value == 'CJ':
             name = 'NS'
         kinds = (value, name)
-        if name in ('OP', 'CP') and widths.of(code) not in ('F', 'W', 'H'):
-            kinds += (name + 'narrow',)
-        if emoji.of(code) and general.of(code) == 'Cn':
-            kinds += ('UnassignedPict',)
+        if widths.of(code) in ('F', 'W', 'H'):
+            kinds += ('EastAsian',)
+        if name == 'QU' and category in ('Pi', 'Pf'):
+            kinds += (category,)
+        if code == 0x25CC:
+            kinds = ('Circle', name, 'Circle')
+        if emoji.of(code) and category == 'Cn':
+            kinds += ('ExtPict', 'Cn')
         return kinds
-    return Model('line', LINE, [breaks, widths, general, emoji], classes_of, line_statuses)
+    return Model('line', LINE_15 if is_15 else LINE, [breaks, widths, general, emoji], classes_of,
+                 line_statuses, {0x25CC, 0x25CD})
 
 
 MODELS = [grapheme, word, sentence, line]
