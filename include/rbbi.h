@@ -126,7 +126,7 @@ int rbbi_table_compile(rbbi_table *table, rbbi_files *files, const void *rules, 
 int rbbi_table_load(rbbi_table *table, const void *bytes, size_t length, rbbi_fault *fault);
 
 /* Loads a table that is in the library: "grapheme", "word" or "sentence" of UAX #29, or "line" of
-   UAX #14, over Unicode 15.0. */
+   UAX #14, over Unicode 18.0. */
 int rbbi_table_named(rbbi_table *table, const char *name);
 
 /* Makes `other` one more handle of the table. */

@@ -9,7 +9,7 @@ use clap::{Arg, ArgAction, ArgMatches, Command, Error};
 use rbbi_text::{Unit, append};
 use std::alloc::{AllocError, Global};
 
-const VERSION: &str = "1.0, with tables of Unicode 15.0";
+const VERSION: &str = "1.0, with tables of Unicode 18.0";
 
 const ABOUT: &str = "Break a text into graphemes, words, sentences or lines";
 

@@ -1,5 +1,5 @@
-//! Table files of rules/ over Unicode 15.0, as `bin/make-tables` makes them. The licence of the
-//! data is tables/LICENSE-UNICODE.
+//! Table files of rules/ over Unicode 18.0, as `bin/make-tables` makes them. The licence of the
+//! data is unicode/LICENSE-UNICODE.
 #![tactic(auto)]
 
 mod grapheme;

@@ -152,7 +152,7 @@ pub(crate) const ROWS: &[Row] = &[
         "--version",
         b"",
         0,
-        "segment 1.0, with tables of Unicode 15.0\n",
+        "segment 1.0, with tables of Unicode 18.0\n",
         "",
     ),
 ];
