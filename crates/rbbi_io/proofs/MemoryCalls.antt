@@ -1,11 +1,11 @@
 -- What reads and writes of files in memory leave, in the words of files.
-use Rattle.std.proofs.Common.{◌≡◌, ◌≢◌, ◌<◌, ◌≤◌, ◌+◌, ℕ, List, Result, Ok, Err, arith, ap, ◌∙◌, ⊎_elim, inl, inr}
+use Rattle.std.proofs.Common.{◌≡◌, ◌≢◌, ◌<◌, ◌≤◌, ◌+◌, ℕ, List, Result, Ok, Err, arith, ap, refl, ◌∙◌, ⊎_elim, inl, inr}
 use Rattle.std.proofs.lemmas.Bool.{cases_lt}
 use Rattle.rbbi_io.specs.declared.error.ReadErr.{ReadErr}
 use Rattle.rbbi_io.specs.declared.error.ReadErr.TheVariants as read
 use Rattle.rbbi_io.specs.declared.error.WriteErr.{WriteErr}
 use Rattle.rbbi_io.specs.declared.error.WriteErr.TheVariants as write
-use Rattle.rbbi_io.specs.Counts.{Rose, capped, greatest_count}
+use Rattle.rbbi_io.specs.Counts.{Rose, EachStays, capped, greatest_count}
 use Rattle.rbbi_io.specs.Answers.{LeavesWritten}
 use Rattle.rbbi_io.specs.Memory.{FilesInMemory, ReadsMemory, WritesMemory, failed_reads_of, failed_writes_of, reads_failed, writes_failed, held_by}
 use Rattle.rbbi_io.proofs.FailedCalls.{failed_reads_of-read, failed_reads_of-other, failed_writes_of-write, failed_writes_of-other}
@@ -38,6 +38,14 @@ module _ (old new : FilesInMemory) (name : List ℕ) where
       ap (λ m. reads_failed m other) h.1 ∙ ap capped (failed_reads_of-other old.failed name other ne)
   ReadsMemory-others limit (Err read.TooLong) h other ne = ap (λ m. reads_failed m other) h.2
   ReadsMemory-others limit (Err read.Memory) h other ne = ap (λ m. reads_failed m other) h
+
+  -- no count changes by a read that didn't fail
+  pub ReadsMemory-calm : (limit : ℕ) (result : Result (List ℕ) ReadErr) → ReadsMemory old name limit result new → ¬ (result ≡ Err read.Failed) →
+      EachStays (reads_failed old) (reads_failed new)
+  ReadsMemory-calm limit (Ok bytes) h calm = λ other. ap (λ m. reads_failed m other) h.3
+  ReadsMemory-calm limit (Err read.Failed) h calm = absurd (calm refl)
+  ReadsMemory-calm limit (Err read.TooLong) h calm = λ other. ap (λ m. reads_failed m other) h.2
+  ReadsMemory-calm limit (Err read.Memory) h calm = λ other. ap (λ m. reads_failed m other) h
 
   -- a write that failed is counted
   pub WritesMemory-failed : {T : Type 0} (bytes : List ℕ) (result : Result T WriteErr) → WritesMemory old name bytes result new → result ≡ Err write.Failed →

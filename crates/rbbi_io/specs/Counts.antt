@@ -33,7 +33,8 @@ EachStays before now = (name : List ℕ) → now name ≡ before name
 abbrev pub OthersStay : List ℕ → (List ℕ → ℕ) → (List ℕ → ℕ) → Type 0
 OthersStay name before now = (other : List ℕ) → other ≢ name → now other ≡ before other
 
--- how many reads and how many writes failed, of all names together
-pub record FaultCounts : Type 0 where
+-- how many reads and how many writes failed, of all names together, and how many writes were done
+pub record CallCounts : Type 0 where
   pub reads : ℕ
   pub writes : ℕ
+  pub written : ℕ

@@ -1,8 +1,10 @@
 //! Files by their names, read and written whole.
 ghost use Rattle.std.specs.Prelude.{◌≡◌, ◌≤◌, ℕ, List, Option, length, IfOk, IfSome, OnSome};
-ghost use Rattle.std.specs.Prelude.{IsErrOf};
+ghost use Rattle.std.specs.Prelude.{Result, IsErrOf, ⊤};
 ghost use Rattle.rbbi_io.specs.Counts.{greatest_count, Rose, EachGoesOn, EachStays, OthersStay};
 ghost use Rattle.rbbi_io.specs.Answers.{AnswersRead, LeavesWritten, WhereTold};
+ghost use Rattle.rbbi_io.specs.declared.error.ReadErr.{ReadErr};
+ghost use Rattle.rbbi_io.specs.declared.error.WriteErr.{WriteErr};
 
 use crate::{ReadErr, WriteErr};
 use rbbi_text::Raw;
@@ -24,22 +26,35 @@ pub trait Files {
     /// How many writes of each name failed.
     ghost failed_writes: { Self → List ℕ → ℕ };
 
+    /// What a read of a name within a limit answers and leaves, where the files say more of it than
+    /// is said below.
+    ghost read_gives: { Self → List ℕ → ℕ → Result (List ℕ) ReadErr → Self → Type 0 } =
+        { λ _ _ _ _ _. ⊤ };
+
+    /// What a write of bytes to a name answers and leaves, likewise.
+    ghost write_gives: { Self → List ℕ → List ℕ → Result (Unit {0}) WriteErr → Self → Type 0 } =
+        { λ _ _ _ _ _. ⊤ };
+
     /// All bytes that the name holds, at most `limit`. A read changes no content.
     ///
-    /// Refuses `Failed` only where the name's count of failed reads rose, and a read that does not
-    /// answer `Failed` refuses `TooLong` exactly where the name holds more than `limit` bytes.
+    /// Refuses `Failed` only where the name's count of failed reads rose. A read that does not
+    /// answer `Failed` changes no count, and refuses `TooLong` exactly where the name holds more
+    /// than `limit` bytes.
     fn read(&mut self, alloc: Global, name: &str, limit: u64) -> Result<Raw, ReadErr>
         ensures within { IfOk result (λ bytes. length bytes ≤ limit) }
         ensures answer { IfSome (contents self.old)
             (λ held. AnswersRead (held name.now) limit result) }
         ensures failed { IsErrOf result ReadErr.Failed
             → Rose (failed_reads self.old name.now) (failed_reads self.new name.now) }
+        ensures gives { read_gives self.old name.now limit result self.new }
 
         ensures same { contents self.new ≡ contents self.old }
         ensures reads { EachGoesOn (failed_reads self.old) (failed_reads self.new) }
         ensures writes { EachStays (failed_writes self.old) (failed_writes self.new) }
         ensures others { OnSome (contents self.old)
-            (OthersStay name.now (failed_reads self.old) (failed_reads self.new)) };
+            (OthersStay name.now (failed_reads self.old) (failed_reads self.new)) }
+        ensures calm { ¬ IsErrOf result ReadErr.Failed
+            → EachStays (failed_reads self.old) (failed_reads self.new) };
 
     /// Makes the name hold these bytes. Every other name holds what it held.
     ///
@@ -50,6 +65,7 @@ pub trait Files {
             (LeavesWritten name.now bytes.now result) }
         ensures failed { IsErrOf result WriteErr.Failed
             → Rose (failed_writes self.old name.now) (failed_writes self.new name.now) }
+        ensures gives { write_gives self.old name.now bytes.now result self.new }
 
         ensures writes { EachGoesOn (failed_writes self.old) (failed_writes self.new) }
         ensures reads { EachStays (failed_reads self.old) (failed_reads self.new) }

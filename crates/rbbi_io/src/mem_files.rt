@@ -1,7 +1,7 @@
 //! Files in memory, with calls that fail when they are told to.
 ghost use Rattle.std.specs.Prelude.{◌≡◌, ◌≤◌, ◌↔◌, ◌++◌, [], ◌∷◌, length, IsTrue, OnOk, OnErr};
 ghost use Rattle.std.specs.Prelude.{IsErrOf, option_copied};
-ghost use Rattle.rbbi_io.specs.Counts.{Rose, OthersStay};
+ghost use Rattle.rbbi_io.specs.Counts.{Rose, EachStays, OthersStay};
 ghost use Rattle.rbbi_io.specs.Answers.{LeavesWritten};
 ghost use Rattle.rbbi_io.specs.Memory.{reads_failed, writes_failed, held_by, file_of, with_file};
 ghost use Rattle.rbbi_io.specs.Memory.{called, IsToFail, ReadsMemory};
@@ -165,6 +165,7 @@ impl MemFiles {
 impl Files for MemFiles {
     ghost use Rattle.std.specs.Prelude.{Some};
     ghost use Rattle.rbbi_io.specs.Memory.{held_by, reads_failed, writes_failed};
+    ghost use Rattle.rbbi_io.specs.Memory.{ReadsMemory, WritesMemory};
     ghost use Rattle.std.proofs.Common.{arith};
 
     ghost contents = { λ memory. Some (held_by memory.files) };
@@ -172,6 +173,10 @@ impl Files for MemFiles {
     ghost failed_reads = { reads_failed };
 
     ghost failed_writes = { writes_failed };
+
+    ghost read_gives = { ReadsMemory };
+
+    ghost write_gives = { λ old name bytes result new. WritesMemory old name bytes result new };
 
     ghost reads_fit = { λ memory name. Prim.omega arith };
 
@@ -182,6 +187,8 @@ impl Files for MemFiles {
         ensures failed { IsErrOf result ReadErr.Failed
             → Rose (reads_failed self.old name.now) (reads_failed self.new name.now) }
         ensures others { OthersStay name.now (reads_failed self.old) (reads_failed self.new) }
+        ensures calm { ¬ IsErrOf result ReadErr.Failed
+            → EachStays (reads_failed self.old) (reads_failed self.new) }
     {
         self.read_whole(alloc, name, limit)
     }

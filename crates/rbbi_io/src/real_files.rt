@@ -18,32 +18,53 @@ use std::marker::Model;
 const BLOCK: usize = 262_144;
 
 /// The files of the system. They do not tell what they hold, and keep one count for the failed
-/// reads of all names and one for the failed writes. Contracts see these two counts.
+/// reads of all names, one for the failed writes, and one for the writes that were done. Contracts
+/// see these three counts.
 #[derive(Drop)]
 pub struct RealFiles<'a, R> {
     rt: &'a R,
     failed_reads: u64,
     failed_writes: u64,
+    written: u64,
 }
 
 impl<'a, R> Model for RealFiles<'a, R> {
-    ghost use Rattle.rbbi_io.specs.Counts.{FaultCounts};
+    ghost use Rattle.rbbi_io.specs.Counts.{CallCounts};
 
-    ghost Value = { FaultCounts };
+    ghost Value = { CallCounts };
 
-    ghost view = { λ files. record { reads = files.failed_reads; writes = files.failed_writes } };
+    ghost view = { λ files. record {
+      reads = files.failed_reads;
+      writes = files.failed_writes;
+      written = files.written;
+    } };
 }
 
 impl<'a, R: std::rt::Files> RealFiles<'a, R> {
-    /// The files of this runtime, with no fault so far.
+    /// The files of this runtime, with no call so far.
     pub fn new(rt: &'a R) -> RealFiles<'a, R>
-        ensures { result ≡ record { reads = 0; writes = 0 } }
+        ensures { result ≡ record { reads = 0; writes = 0; written = 0 } }
     {
         RealFiles {
             rt,
             failed_reads: 0,
             failed_writes: 0,
+            written: 0,
         }
+    }
+
+    /// How many writes failed.
+    pub fn failed_writes(&self) -> u64
+        ensures { result ≡ self.now.writes }
+    {
+        self.failed_writes
+    }
+
+    /// How many writes were done.
+    pub fn written(&self) -> u64
+        ensures { result ≡ self.now.written }
+    {
+        self.written
     }
 }
 
@@ -136,6 +157,7 @@ fn refused_read(fault: &io::Error) -> ReadErr
 impl<'a, R: std::rt::Files + Alloc> Files for RealFiles<'a, R> {
     ghost use Rattle.std.specs.Prelude.{None};
     ghost use Rattle.rbbi_io.specs.Counts.{capped};
+    ghost use Rattle.rbbi_io.specs.Answers.{CountsRead, CountsWrite};
     ghost use Rattle.std.proofs.Common.{arith};
 
     ghost contents = { λ _. None };
@@ -143,6 +165,10 @@ impl<'a, R: std::rt::Files + Alloc> Files for RealFiles<'a, R> {
     ghost failed_reads = { λ counts _. capped counts.reads };
 
     ghost failed_writes = { λ counts _. capped counts.writes };
+
+    ghost read_gives = { λ old _ _ result new. CountsRead old result new };
+
+    ghost write_gives = { λ old _ _ result new. CountsWrite old result new };
 
     ghost reads_fit = { λ counts name. Prim.omega arith };
 
@@ -158,8 +184,10 @@ impl<'a, R: std::rt::Files + Alloc> Files for RealFiles<'a, R> {
 
     fn write(&mut self, name: &str, bytes: &[u8]) -> Result<(), WriteErr> {
         let outcome = write_file(self.rt, name, bytes);
-        if let Err(WriteErr::Failed) = &outcome {
-            self.failed_writes = self.failed_writes.saturating_add(1);
+        match &outcome {
+            Ok(()) => self.written = self.written.saturating_add(1),
+            Err(WriteErr::Failed) => self.failed_writes = self.failed_writes.saturating_add(1),
+            Err(WriteErr::Memory) => {}
         }
         outcome
     }
