@@ -1,11 +1,12 @@
 -- The reads of the files that words name, in order.
 use Rattle.std.proofs.Common.{◌≡◌, ◌≢◌, ◌<◌, ◌≤◌, ◌+◌, ◌⊎◌, ℕ, zero, suc, List, [], ◌∷◌, length, drop, get_or, slice_get}
 use Rattle.std.proofs.Common.{Option, None, Some, refl, sym, ap, ◌∙◌, subst, inl, inr, ⊎_elim, arith}
-use Rattle.std.specs.Prelude.{IfSome, OnSome}
+use Rattle.std.specs.Prelude.{IfSome, OnSome, Result, Ok}
 use Rattle.std.proofs.lemmas.Bool.{cases_lt}
 use Rattle.std.proofs.lemmas.Option.{slice_get_within}
 use Rattle.std.proofs.lemmas.List.{drop_more, drop_all}
 use Rattle.rbbi_io.specs.Counts.{greatest_count, Rose, EachGoesOn, EachStays, OthersStay}
+use Rattle.rbbi_io.specs.declared.error.ReadErr.{ReadErr}
 use Rattle.rbbi_text.specs.Bytes.{most_bytes}
 use Rattle.rbbi_model.proofs.Lists.{all_append}
 use Rattle.rbbi_command.specs.declared.files.Role.{Role}
@@ -15,8 +16,9 @@ use Rattle.rbbi_command.specs.declared.refusal.Refusal.{Refusal}
 use Rattle.rbbi_command.specs.declared.refusal.Refusal.TheVariants.{Usage, Unread, Fault, Memory}
 use Rattle.rbbi_command.specs.Files.{limit_of, length_stage, lengths_stage}
 use Rattle.rbbi_command.specs.Inputs.{Inputs, no_inputs, put, with_files, inputs_of, AreShort}
-use Rattle.rbbi_command.specs.inner.Reads.{IsReadOf, EndsRead}
-use Rattle.rbbi_command.specs.Reads.{MakesReads, MakesSomeReads, EndsReading, AreRead}
+use Rattle.rbbi_command.specs.inner.Reads.{IsReadOf, EndsRead, ReadsOnce}
+use Rattle.rbbi_command.specs.Reads.{MakesReads, MakesSomeReads, EndsReading, AreRead, AreReads, IsRefusedRead, StopsReading}
+use Rattle.rbbi_command.specs.Reads as made
 
 -- So many of the files were read, and what they hold: each is within its limit, and no other name's count changed.
 pub record AreReadBefore (held : List ℕ → List ℕ) (sources : List Source) (before now : List ℕ → ℕ) (i : ℕ) (inputs : Inputs) : Type 0 where
@@ -32,6 +34,7 @@ pub record ReadsSoFar (sources : List Source) (contents contents' : Option (List
   pub short : AreShort inputs
   pub told : IfSome contents (λ held. AreReadBefore held sources before now i inputs)
   pub reads : EachGoesOn before now
+  pub calm : EachStays before now
   pub stays : EachStays writes writes'
 
 -- the file at an index
@@ -201,6 +204,7 @@ none_read sources contents before writes inputs fit none =
           always_told contents (λ held. AreReadBefore held sources before before 0 no_inputs)
           (λ held. record { inputs_are = refl; within = λ k s less. absurd (omega arith); others = λ name differs. refl });
       reads = λ name. (omega arith, fit name);
+      calm = λ name. refl;
       stays = λ name. refl;
     })
 
@@ -243,19 +247,21 @@ module _ {sources : List Source} {contents contents' : Option (List ℕ → List
         rose = subst (λ n. Rose (before n) (now' n)) (sym ends.0) rose;
         reads = reads_made now' stay;
       }
-  reading_ends now' (Fault subject label place) on stay ends =
-      both_told contents (λ held. AreReadBefore held sources before now i inputs) (λ held. (length_stage held source).refuses (Fault subject label place))
-      (λ held. (lengths_stage held sources).refuses (Fault subject label place)) so_far.told
-      (subst (λ o. IfSome o (λ held. (length_stage held source).refuses (Fault subject label place))) so_far.same ends)
-      (λ held front long. lengths_refuse held sources i source (Fault subject label place) (at_index sources i source inside is) front.within long)
+  reading_ends now' (Fault subject label place) on stay ends = (
+    both_told contents (λ held. AreReadBefore held sources before now i inputs) (λ held. (length_stage held source).refuses (Fault subject label place))
+        (λ held. (lengths_stage held sources).refuses (Fault subject label place)) so_far.told
+        (subst (λ o. IfSome o (λ held. (length_stage held source).refuses (Fault subject label place))) so_far.same ends.0)
+        (λ held front long. lengths_refuse held sources i source (Fault subject label place) (at_index sources i source inside is) front.within long),
+    λ name. ends.1 name ∙ so_far.calm name,
+  )
   reading_ends now' Memory on stay ends = tt
 
   -- this file is read
   pub reads_more : (contents'' : Option (List ℕ → List ℕ)) (now' writes'' : List ℕ → ℕ) (read : List ℕ) (inputs' : Inputs)
-      → IsReadOf source contents' read → contents'' ≡ contents' → EachGoesOn now now' → EachStays writes' writes'' → OnSome contents'
+      → IsReadOf source contents' read → contents'' ≡ contents' → EachGoesOn now now' → EachStays now now' → EachStays writes' writes'' → OnSome contents'
       (OthersStay source.name now now')
       → inputs' ≡ put source.role source.name read inputs → ReadsSoFar sources contents contents'' before now' writes writes'' (i + 1) inputs'
-  reads_more contents'' now' writes'' read inputs' is_read same on stays stay is_put =
+  reads_more contents'' now' writes'' read inputs' is_read same on calm stays stay is_put =
       let rest = drop (i + 1) sources in
       let more : drop i sources ≡ source ∷ rest = drop_more sources i source inside ∙ ap (λ s. s ∷ rest) (sym is) in
       record {
@@ -282,6 +288,7 @@ module _ {sources : List Source} {contents contents' : Option (List ℕ → List
               others = others_after held now' front others;
             });
         reads = λ name. let one = so_far.reads name in let two = on name in (omega arith, omega arith);
+        calm = λ name. calm name ∙ so_far.calm name;
         stays = λ name. stays name ∙ so_far.stays name;
       }
     where
@@ -312,3 +319,24 @@ module _ {sources : List Source} {contents contents' : Option (List ℕ → List
           others = λ name differs. front.others name (λ k s less. differs k s (omega arith));
         },
       ))
+
+module _ {S : Type 0} (gives : S → List ℕ → ℕ → Result (List ℕ) ReadErr → S → Type 0) (sources : List Source) (before between now : S) (i : ℕ)
+    (source : Source) (reads : AreReads gives sources before i between) (inside : i < length sources) (is : source ≡ get_or sources i source) where
+  -- one read more
+  pub one_read_more : (bytes : List ℕ) → ReadsOnce gives source between (Ok bytes) now → AreReads gives sources before (i + 1) now
+  one_read_more bytes read = made.OneMore i source bytes between now reads (at_index sources i source inside is) read
+
+  -- the read of this file was refused
+  pub stops_at : (refusal : Refusal) → IsRefusedRead gives source between refusal now → StopsReading gives sources before refusal now
+  stops_at refusal refused =
+      record { made = i; between = between; reads = reads; last = inr (source, at_index sources i source inside is, refused) }
+
+-- memory ran out after these reads
+pub stops_without : {S : Type 0} (gives : S → List ℕ → ℕ → Result (List ℕ) ReadErr → S → Type 0) (sources : List Source) (before now : S) (i : ℕ)
+    → AreReads gives sources before i now → StopsReading gives sources before Memory now
+stops_without gives sources before now i reads = record { made = i; between = now; reads = reads; last = inl (refl, refl) }
+
+-- all files were read
+pub all_reads : {S : Type 0} (gives : S → List ℕ → ℕ → Result (List ℕ) ReadErr → S → Type 0) (sources : List Source) (before now : S) (i : ℕ)
+    → AreReads gives sources before i now → i ≡ length sources → AreReads gives sources before (length sources) now
+all_reads gives sources before now i reads all = subst (λ n. AreReads gives sources before n now) all reads

@@ -1,5 +1,6 @@
 -- What is written of an outcome: its file first, and then what goes out.
-use Rattle.std.specs.Prelude.{◌≡◌, ◌⊎◌, ℕ, List, Option, Some, None}
+use Rattle.std.specs.Prelude.{◌≡◌, ◌⊎◌, ℕ, List, Option, Some, None, Result}
+use Rattle.rbbi_io.specs.declared.error.WriteErr.{WriteErr}
 use Rattle.rbbi_io.specs.Counts.{Rose, EachStays, OthersStay}
 use Rattle.rbbi_io.specs.Answers.{OthersHold}
 use Rattle.rbbi_command.specs.Refusals.{Written}
@@ -28,3 +29,8 @@ pub record IsOutputFile (file : Option Written) (held' : List ℕ → List ℕ) 
 -- each name holds what it held, or is that of the file
 abbrev pub EachHoldsOrIsOutputFile : Option Written → (List ℕ → ℕ) → (List ℕ → ℕ) → (List ℕ → List ℕ) → (List ℕ → List ℕ) → Type 0
 EachHoldsOrIsOutputFile file writes writes' held held' = (name : List ℕ) → (held' name ≡ held name) ⊎ IsOutputFile file held' writes writes' name
+
+-- The file is written by one call, where `gives` says what a write answers and leaves; without a file there is no call.
+abbrev pub MakesWrite : {S : Type 0} → (S → List ℕ → List ℕ → Result (Unit {0}) WriteErr → S → Type 0) → Option Written → S → S → Type 0
+MakesWrite gives None before now = now ≡ before
+MakesWrite gives (Some file) before now = (result : Result (Unit {0}) WriteErr) × gives before file.name file.bytes result now

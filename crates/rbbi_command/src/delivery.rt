@@ -1,5 +1,5 @@
 //! What is written of an output: its file first, and then what goes out.
-ghost use Rattle.std.specs.Prelude.{◌≡◌, ◌≤◌, ◌⊎◌, None, IsErrOf, OnSome};
+ghost use Rattle.std.specs.Prelude.{◌≡◌, ◌≤◌, ◌⊎◌, IsErrOf, OnSome};
 ghost use Rattle.rbbi_io.specs.declared.error.WriteErr.TheVariants.{Failed};
 ghost use Rattle.rbbi_io.specs.Counts.{Rose, GoesOn, EachGoesOn, EachStays};
 ghost use Rattle.rbbi_io.specs.Answers.{WhereTold};
@@ -7,7 +7,7 @@ ghost use Rattle.rbbi_io.specs.Sinks.{Takes, TakesFront};
 ghost use Rattle.rbbi_command.specs.Delivery as spec;
 ghost use Rattle.rbbi_command.specs.Delivery.{EachHoldsOrIsOutputFile, FileFailed};
 ghost use Rattle.rbbi_command.specs.inner.Delivery.{LeavesFile};
-ghost use Rattle.rbbi_command.specs.Delivery.{OthersUncounted};
+ghost use Rattle.rbbi_command.specs.Delivery.{MakesWrite, OthersUncounted};
 
 use crate::{Output, Written};
 use rbbi_io::{Files, Sink, WriteErr, put_all};
@@ -18,7 +18,7 @@ fn write_file<F: Files>(file: &Option<Written>, files: &mut F) -> Result<(), Wri
         (LeavesFile file.now result) }
     ensures failed { IsErrOf result Failed
         → FileFailed file.now (F.failed_writes files.old) (F.failed_writes files.new) }
-    ensures same { file.now ≡ None → F.contents files.new ≡ F.contents files.old }
+    ensures call { MakesWrite F.write_gives file.now files.old files.new }
     ensures writes { EachGoesOn (F.failed_writes files.old) (F.failed_writes files.new) }
     ensures reads { EachStays (F.failed_reads files.old) (F.failed_reads files.new) }
     ensures others { OnSome (F.contents files.old) (OthersUncounted file.now
@@ -48,7 +48,7 @@ pub fn deliver<F: Files, K: Sink>(output: &Output, files: &mut F, out: &mut K) -
     ensures contents { WhereTold (F.contents files.old) (F.contents files.new)
         (EachHoldsOrIsOutputFile output.now.file
         (F.failed_writes files.old) (F.failed_writes files.new)) }
-    ensures same { output.now.file ≡ None → F.contents files.new ≡ F.contents files.old }
+    ensures call { MakesWrite F.write_gives output.now.file files.old files.new }
     ensures others { OnSome (F.contents files.old) (OthersUncounted output.now.file
         (F.failed_writes files.old) (F.failed_writes files.new)) }
     ensures reads { EachStays (F.failed_reads files.old) (F.failed_reads files.new) }

@@ -1,8 +1,8 @@
 //! The files that words name to be read, in order, each with its limit.
-ghost use Rattle.std.specs.Prelude.{◌≡◌, IfOk, IfErr, OnSome};
+ghost use Rattle.std.specs.Prelude.{◌≡◌, IfOk, IfErr, OnOk, OnSome};
 ghost use Rattle.rbbi_io.specs.Counts.{EachGoesOn, EachStays, OthersStay};
 ghost use Rattle.rbbi_command.specs.Files as spec;
-ghost use Rattle.rbbi_command.specs.inner.Reads.{IsReadOf, EndsRead};
+ghost use Rattle.rbbi_command.specs.inner.Reads.{IsReadOf, EndsRead, ReadsOnce};
 
 use crate::{Name, Place, Refusal, Subject, fault};
 use rbbi_io::{Files, ReadErr};
@@ -68,7 +68,7 @@ impl Role {
     }
 }
 
-/// The bytes of a file.
+/// The bytes of a file, by one read.
 pub(crate) fn read_one<F: Files>(
     alloc: Global,
     source: &Source,
@@ -77,6 +77,8 @@ pub(crate) fn read_one<F: Files>(
     ensures read { IfOk result (IsReadOf source.now (F.contents files.old)) }
     ensures refused { IfErr result (EndsRead source.now (F.contents files.old)
         (F.failed_reads files.old) (F.failed_reads files.new)) }
+    ensures once { ReadsOnce F.read_gives source.now files.old result files.new }
+    ensures calm { OnOk result (EachStays (F.failed_reads files.old) (F.failed_reads files.new)) }
 
     ensures same { F.contents files.new ≡ F.contents files.old }
     ensures reads { EachGoesOn (F.failed_reads files.old) (F.failed_reads files.new) }

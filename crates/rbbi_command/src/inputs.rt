@@ -4,6 +4,7 @@ ghost use Rattle.rbbi_io.specs.Counts.{EachGoesOn, EachStays};
 ghost use Rattle.rbbi_command.specs.declared.inputs.Input.{Input};
 ghost use Rattle.rbbi_command.specs.Inputs as spec;
 ghost use Rattle.rbbi_command.specs.Reads.{AreRead, EndsReading, MakesSomeReads};
+ghost use Rattle.rbbi_command.specs.Reads.{EndsAtRefusedRead};
 
 use crate::files::read_one;
 use crate::{Name, Refusal, Role, Source};
@@ -93,8 +94,8 @@ impl Inputs {
     }
 }
 
-/// Reads the files in order, and tells what each is to the program. The first that can't be read or
-/// is too long ends the reading, and none behind it is read.
+/// Reads the files in order, each once, and tells what each is to the program. The first that can't
+/// be read or is too long ends the reading: it is the one that is told, and no read comes after it.
 pub fn read_all<F: Files>(
     alloc: Global,
     sources: &[Source],
@@ -107,6 +108,8 @@ pub fn read_all<F: Files>(
         (F.failed_reads files.old) (F.failed_reads files.new)) }
     ensures order { IfSome (F.contents files.old) (MakesSomeReads sources.now
         (F.failed_reads files.old) (F.failed_reads files.new)) }
+    ensures calls { EndsAtRefusedRead F.read_gives sources.now files.old result files.new }
+    ensures calm { OnOk result (EachStays (F.failed_reads files.old) (F.failed_reads files.new)) }
 
     ensures same { F.contents files.new ≡ F.contents files.old }
     ensures reads { EachGoesOn (F.failed_reads files.old) (F.failed_reads files.new) }
