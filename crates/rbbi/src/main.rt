@@ -23,26 +23,31 @@ fn run<L: Ledger>(rt: &HostRuntime, words: &Vec<String>, blank: Blank) -> u8
     let mut files = RealFiles::new(rt);
     let mut out = RealSink::new(io::writer(rt));
     let mut steps = Steps::<L>::new(rt, blank);
-    rbbi(rt.alloc(), words, &mut files, &mut out, &mut steps)
+    let status = rbbi(rt.alloc(), words, &mut files, &mut out, &mut steps);
+    tell_silent_end(rt, status, &files);
+    status
 }
 
-/// Tells on the standard error why a run ended without a line of its own. Nothing where that fails
-/// too.
-fn tell_silent_end(rt: &HostRuntime, status: u8) {
-    let _ = match status {
-        7 => eprintln!(rt; "rbbi: the output or the table file could not be written"),
-        8 => eprintln!(rt; "rbbi: memory ran out"),
-        _ => Ok(()),
+/// Tells on the standard error why a run ended without a line of its own, and where it wrote a
+/// table file or tried to, whether that is the new one. Nothing where that fails too.
+fn tell_silent_end(rt: &HostRuntime, status: u8, files: &RealFiles<'_, HostRuntime>) {
+    let cause = match status {
+        7 if files.failed_writes() > 0 => "the table file could not be written",
+        7 => "the output could not be written",
+        8 => "memory ran out",
+        _ => return,
     };
+    let table = if files.written() > 0 {
+        ", but the table file is the new one"
+    } else {
+        ""
+    };
+    let _ = eprintln!(rt; "rbbi: {cause}{table}");
 }
 
 fn main(rt: HostRuntime) -> ExitCode {
     let status = match words(&rt) {
-        Ok(words) => {
-            let status = run::<Brand>(&rt, &words, Blank::new(1));
-            tell_silent_end(&rt, status);
-            status
-        }
+        Ok(words) => run::<Brand>(&rt, &words, Blank::new(1)),
         Err(fault) if fault.kind() == ErrorKind::OutOfMemory => 8,
         Err(_) => 9,
     };

@@ -231,7 +231,6 @@ reads_further Tally request inputs few many before after less reads =
 pub reads_nothing : (words : List (List ℕ)) (contents : Option (List ℕ → List ℕ)) (reads : List ℕ → ℕ) (steps : ℕ)
     → ReadsInOrder words contents reads reads 0 steps steps
 reads_nothing words contents reads steps = record {
-  unread = λ none name. refl;
   order = λ request asks.
       always_told contents (MakesSomeReads (sources_of request) reads reads)
       (λ held. (0, record { few = omega arith; within = λ k source less. absurd (omega arith); others = λ name differs. refl }));

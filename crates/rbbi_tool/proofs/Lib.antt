@@ -16,6 +16,7 @@ pub mod ToldReplies
 pub mod Commands
 pub mod Faults
 pub mod Runs
+pub mod Calls
 pub mod LeastFaults
 pub mod OneReading
 pub mod SameMarks

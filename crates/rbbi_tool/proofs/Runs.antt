@@ -42,17 +42,19 @@ module _ (words : List (List ℕ)) (contents : Option (List ℕ → List ℕ)) (
     λ none. none request asks,
     all_told contents (λ held. (lengths_stage held (sources_of request)).refuses (Fault subject label place))
         (λ held. (run_stage words held).refuses (Fault subject label place))
-        (subst (λ ss. EndsReading ss contents before now (Fault subject label place)) same ends) (λ held long. inr (request, asks, inl long)),
+        (subst (λ ss. EndsReading ss contents before now (Fault subject label place)) same ends).0 (λ held long. inr (request, asks, inl long)),
+    ends.1,
   )
   ends_run sources Memory same ends = tt
 
   -- a fault ends the run
-  fault_ends : (r : Refusal) → IsFault r → IfSome contents (λ held. (run_stage words held).refuses r) → ComesTo words contents before now (Err r)
+  fault_ends : (r : Refusal) → IsFault r → IfSome contents (λ held. (run_stage words held).refuses r) → EachStays before now
+      → ComesTo words contents before now (Err r)
   unfolding IsFault
-  fault_ends Usage is told = absurd is
-  fault_ends (Unread name) is told = absurd is
-  fault_ends (Fault subject label place) is told = (λ none. none request asks, told)
-  fault_ends Memory is told = absurd is
+  fault_ends Usage is told stays = absurd is
+  fault_ends (Unread name) is told stays = absurd is
+  fault_ends (Fault subject label place) is told stays = (λ none. none request asks, told, stays)
+  fault_ends Memory is told stays = absurd is
 
   named : (file : Option Written) → IfSome file (λ f. IsWrittenBy request f.name) → IfSome file (λ f. NamesToWrite words f.name)
   named None written = tt
@@ -70,9 +72,9 @@ module _ (words : List (List ℕ)) (contents : Option (List ℕ → List ℕ)) (
 
   -- the command ends the run
   pub command_ends : (sources : List Source) (inputs : Inputs) (result : Result Outcome Refusal) → sources ≡ sources_of request
-      → IfSome contents (AreRead sources inputs)
+      → IfSome contents (AreRead sources inputs) → EachStays before now
       → Meets (λ outcome. outcome) (command_stage request.command request inputs) result → ComesTo words contents before now result
-  command_ends sources inputs (Ok outcome) same read met =
+  command_ends sources inputs (Ok outcome) same read stays met =
       let told = command_told request.command request inputs outcome refl asks.count met in
       let Passes = λ (i : Inputs). (command_stage request.command request i).passes outcome in (
         told.status,
@@ -80,14 +82,15 @@ module _ (words : List (List ℕ)) (contents : Option (List ℕ → List ℕ)) (
         named outcome.file told.file,
         all_told contents (Holds Passes) (λ held. (run_stage words held).passes outcome) (over sources inputs Passes same read met)
             (λ held (short, passes). (request, asks, (tt, short, passes))),
+        stays,
       )
-  command_ends sources inputs (Err r) same read met =
+  command_ends sources inputs (Err r) same read stays met =
       ⊎_elim (λ memory. subst (λ s. ComesTo words contents before now (Err s)) (sym memory) tt)
       (λ refuses.
       let Refuses = λ (i : Inputs). (command_stage request.command request i).refuses r in
       fault_ends r (command_fault request.command request inputs r refuses)
       (all_told contents (Holds Refuses) (λ held. (run_stage words held).refuses r) (over sources inputs Refuses same read refuses)
-      (λ held (short, refuses). inr (request, asks, inr (tt, short, refuses)))))
+      (λ held (short, refuses). inr (request, asks, inr (tt, short, refuses))) stays))
       met
 
 -- the files are read in the order of the one request that the words ask for
@@ -111,7 +114,7 @@ held_more (Some held) None Q R q more = q
 held_more (Some held) (Some held') Q R q more = more held held' q
 
 -- the status of a fault
-fault_low : (subject : Subject) → (3 ≤ status_of_subject subject) × (status_of_subject subject ≤ 5)
+pub fault_low : (subject : Subject) → (3 ≤ status_of_subject subject) × (status_of_subject subject ≤ 5)
 fault_low Rules = (omega arith, omega arith)
 fault_low OtherRules = (omega arith, omega arith)
 fault_low Table = (omega arith, omega arith)
@@ -135,6 +138,7 @@ module _ (words : List (List ℕ)) (contents : Option (List ℕ → List ℕ)) (
         form = λ none. absurd (comes.1 none);
         is = λ other. all_told contents (λ held. (run_stage words held).passes output) (λ held. IsOutcome words held outcome) comes.3
             (λ held passes. inr (subst (λ o. (run_stage words held).passes o) (sym told) passes));
+        unfailed = λ low. comes.4;
         read_failed = λ six. absurd (omega arith);
       }
   is_answer (Err Usage) comes told =
@@ -144,9 +148,10 @@ module _ (words : List (List ℕ)) (contents : Option (List ℕ → List ℕ)) (
         low = omega arith;
         file = no_file_told none;
         no_file = λ two. none;
-        usage = λ two. (comes, ap (λ o. o.bytes) told.1);
+        usage = λ two. (comes.0, ap (λ o. o.bytes) told.1);
         form = λ none. status;
-        is = λ other. always_told contents (λ held. IsOutcome words held outcome) (λ held. inl (Usage, inl (comes, refl), told.1));
+        is = λ other. always_told contents (λ held. IsOutcome words held outcome) (λ held. inl (Usage, inl (comes.0, refl), told.1));
+        unfailed = λ low. comes.1;
         read_failed = λ six. absurd (omega arith);
       }
   is_answer (Err (Unread name)) comes told =
@@ -159,6 +164,7 @@ module _ (words : List (List ℕ)) (contents : Option (List ℕ → List ℕ)) (
         usage = λ two. absurd (omega arith);
         form = λ no. absurd (no comes.request comes.asks);
         is = λ other. absurd (other status);
+        unfailed = λ low. absurd (omega arith);
         read_failed = λ six. (name, comes, ap (λ o. o.bytes) told.1);
       }
   is_answer (Err (Fault subject label place)) comes told =
@@ -173,6 +179,7 @@ module _ (words : List (List ℕ)) (contents : Option (List ℕ → List ℕ)) (
         form = λ no. absurd (comes.0 no);
         is = λ other. all_told contents (λ held. (run_stage words held).refuses (Fault subject label place)) (λ held. IsOutcome words held outcome) comes.1
             (λ held refuses. inl (Fault subject label place, refuses, told.1));
+        unfailed = λ low. comes.2;
         read_failed = λ six. absurd (omega arith);
       }
   is_answer (Err Memory) comes told = absurd (told.0 refl)
@@ -339,6 +346,9 @@ module _ {words : List (List ℕ)} {contents contents' : Option (List ℕ → Li
   pub read_failed_of : result ≡ 6 → TakesFailedRead words contents reads reads' taken taken'
   read_failed_of six =
       (outcome.bytes, d.answer.read_failed (sym (same_status (omega arith)) ∙ six), d.takes (omega arith))
+
+  pub unfailed_of : result ≤ 5 → EachStays reads reads'
+  unfailed_of low = d.answer.unfailed (omega (arith, same_status (omega arith)))
 
   pub put_failed_of : result ≡ 7 → Rose faults faults' ⊎ SomeWriteFailed words writes writes'
   put_failed_of seven = ⊎_elim inl (λ failed. inr (write_failed words contents contents' reads reads' outcome d.answer writes writes' failed)) (d.failed seven)

@@ -7,6 +7,7 @@ pub mod Filters
 pub mod Command
 pub mod Program
 pub mod Causes
+pub mod Calls
 pub mod Laws
 pub mod Steps
 pub mod inner

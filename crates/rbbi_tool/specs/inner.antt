@@ -4,6 +4,7 @@ pub mod Filters
 pub mod Judging
 pub mod Comparing
 pub mod Causes
+pub mod Calls
 pub mod Steps
 pub mod Tallying
 pub mod Prepared

@@ -1,5 +1,5 @@
 //! What a request comes to, as it is written.
-ghost use Rattle.std.specs.Prelude.{◌≡◌, ◌≤◌, ◌⊎◌, map, None, OnOk, OnErr, OnSome, IsErrOf};
+ghost use Rattle.std.specs.Prelude.{◌≡◌, ◌≤◌, ◌⊎◌, map, OnOk, OnErr, OnSome, IsErrOf};
 ghost use Rattle.rbbi_model.specs.Lines.{boundary_lines, all_reply_lines};
 ghost use Rattle.rbbi_model.specs.Plays.{measured_boundaries, table_replies};
 ghost use Rattle.rbbi_model.specs.Costs.{breaks_cost, commands_cost, script_cost};
@@ -11,7 +11,7 @@ ghost use Rattle.rbbi_io.specs.Counts.{Rose, GoesOn, EachGoesOn, EachStays};
 ghost use Rattle.rbbi_io.specs.Answers.{WhereTold};
 ghost use Rattle.rbbi_io.specs.Sinks.{Takes, TakesFront};
 ghost use Rattle.rbbi_io.specs.declared.error.WriteErr.TheVariants.{Failed};
-ghost use Rattle.rbbi_command.specs.Delivery.{HoldsFile, FileFailed, OthersUncounted};
+ghost use Rattle.rbbi_command.specs.Delivery.{HoldsFile, FileFailed, MakesWrite, OthersUncounted};
 ghost use Rattle.rbbi_command.specs.Delivery.{EachHoldsOrIsOutputFile};
 ghost use Rattle.rbbi_tool.specs.inner.Prepared.{bytes_of, cost_of, outcome_of, rest_of};
 
@@ -172,8 +172,7 @@ pub(crate) fn emit<F: Files, K: Sink, L: Ledger>(
     ensures contents { WhereTold (F.contents files.old) (F.contents files.new)
         (EachHoldsOrIsOutputFile (outcome_of prepared).file
         (F.failed_writes files.old) (F.failed_writes files.new)) }
-    ensures same { (outcome_of prepared).file ≡ None
-        → F.contents files.new ≡ F.contents files.old }
+    ensures call { MakesWrite F.write_gives (outcome_of prepared).file files.old files.new }
     ensures others { OnSome (F.contents files.old) (OthersUncounted (outcome_of prepared).file
         (F.failed_writes files.old) (F.failed_writes files.new)) }
     ensures reads { EachStays (F.failed_reads files.old) (F.failed_reads files.new) }

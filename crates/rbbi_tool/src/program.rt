@@ -10,8 +10,10 @@ ghost use Rattle.rbbi_command.specs.Files.{sources_of};
 ghost use Rattle.rbbi_command.specs.Reads.{MakesSomeReads};
 ghost use Rattle.rbbi_tool.specs.Steps.{RequestReads};
 ghost use Rattle.rbbi_tool.specs.inner.Steps.{ReadsInOrder};
+ghost use Rattle.rbbi_tool.specs.inner.Calls.{ReadsAsAsked};
 ghost use Rattle.rbbi_tool.specs.inner.Causes.{ComesTo, GivesOutcome};
 ghost use Rattle.rbbi_tool.specs.inner.Prepared.{answer_of, outcome_of, rest_of, rest_after};
+ghost use Rattle.rbbi_tool.specs.Calls.{CallsInOrder};
 ghost use Rattle.rbbi_tool.specs.Causes.{NoReadFailed};
 ghost use Rattle.rbbi_tool.specs.Causes.{TakesOutcome, TakesFailedRead, TakesPart};
 ghost use Rattle.rbbi_tool.specs.Causes.{EachHolds, SomeWriteFailed, OthersUnwritten};
@@ -37,6 +39,8 @@ fn run<F: Files, L: Ledger>(
     ensures reading { ReadsInOrder (map string_bytes words.now.items) (F.contents files.old)
         (F.failed_reads files.old) (F.failed_reads files.new)
         (rest_after result) steps.old steps.new }
+    ensures calls { ReadsAsAsked F.read_gives (map string_bytes words.now.items)
+        files.old (answer_of result) files.new }
     ensures contents { F.contents files.new ≡ F.contents files.old }
     ensures reads { EachGoesOn (F.failed_reads files.old) (F.failed_reads files.new) }
     ensures writes { EachStays (F.failed_writes files.old) (F.failed_writes files.new) }
@@ -88,7 +92,8 @@ fn told(alloc: Global, ended: Result<Prepared, Refusal>) -> Result<Prepared, All
 /// rule file, then the text, and then the script or the tests. A file that the command writes is
 /// written before anything goes out, so where the write fails, nothing goes out. The lines of
 /// `breaks`, `run` and `tally` go out while they are made, as soon as 65,536 bytes or more wait.
-/// After a put or a write that is refused there is no further call.
+/// No call on the files comes after a read or a write that is refused. That none on the sink comes
+/// after a write or a put that is refused is tested.
 pub fn rbbi<F: Files, K: Sink, L: Ledger>(
     alloc: Global,
     words: &Vec<String>,
@@ -99,16 +104,18 @@ pub fn rbbi<F: Files, K: Sink, L: Ledger>(
     ensures statuses { result ≤ 8 }
 
     // 2 comes exactly where the words are of no form, but for a line that can't be put and want of
-    // memory; and then no file is read.
+    // memory; and then no call is made on the files.
     ensures usage { result ≡ 2 → AreNoForm (map string_bytes words.now.items)
         × Takes (K.taken out.old) (K.taken out.new) usage_line }
     ensures no_form { AreNoForm (map string_bytes words.now.items)
         → (result ≡ 2) ⊎ ((result ≡ 7) ⊎ (result ≡ 8)) }
-    ensures unread { AreNoForm (map string_bytes words.now.items)
-        → EachStays (F.failed_reads files.old) (F.failed_reads files.new) }
+    ensures uncalled { AreNoForm (map string_bytes words.now.items) → files.new ≡ files.old }
 
-    // The files are read in the order of the words, and none behind one that can't be read or is
-    // too long.
+    // The files are read in the order of the words, each once, and none after one that can't be
+    // read or is too long, which is the one that is told. Then one is written at most.
+    ensures calls { (request : Request) → IsCommandLine (map string_bytes words.now.items) request
+        → CallsInOrder F.read_gives F.write_gives (map string_bytes words.now.items)
+        (sources_of request) files.old files.new result (K.taken out.old) (K.taken out.new) }
     ensures order { (request : Request) → IsCommandLine (map string_bytes words.now.items) request
         → IfSome (F.contents files.old) (MakesSomeReads (sources_of request)
         (F.failed_reads files.old) (F.failed_reads files.new)) }
@@ -125,10 +132,13 @@ pub fn rbbi<F: Files, K: Sink, L: Ledger>(
         (TakesOutcome (map string_bytes words.now.items) result
         (K.taken out.old) (K.taken out.new)) }
 
-    // 6 and 7 come only with a fault that the files or the sink counted.
+    // 6 and 7 come only with a fault that the files or the sink counted, and 0 to 5 only where no
+    // read failed.
     ensures read_failed { result ≡ 6 → TakesFailedRead (map string_bytes words.now.items)
         (F.contents files.old) (F.failed_reads files.old) (F.failed_reads files.new)
         (K.taken out.old) (K.taken out.new) }
+    ensures unfailed { result ≤ 5
+        → EachStays (F.failed_reads files.old) (F.failed_reads files.new) }
     ensures put_failed { result ≡ 7 → Rose (K.faults out.old) (K.faults out.new)
         ⊎ SomeWriteFailed (map string_bytes words.now.items)
         (F.failed_writes files.old) (F.failed_writes files.new) }
@@ -149,7 +159,8 @@ pub fn rbbi<F: Files, K: Sink, L: Ledger>(
         (K.taken out.old) (K.taken out.new)) }
 
     // Every file holds what it held, but for one that the outcome writes; and after 2 to 6 that one
-    // too. No count falls, and no write is counted but of a file that the words name to be written.
+    // too. No count falls, and where the files tell what they hold, no failed write is counted but
+    // of a file that the words name to be written.
     ensures contents { WhereTold (F.contents files.old) (F.contents files.new)
         (EachHolds (map string_bytes words.now.items)
         (F.failed_writes files.old) (F.failed_writes files.new)) }

@@ -1,7 +1,6 @@
 -- How much a run reads of its files, in the order of the words.
 use Rattle.std.specs.Prelude.{ℕ, ◌+◌, List, Option, IfSome, length, sum_by}
-use Rattle.rbbi_io.specs.Counts.{EachStays}
-use Rattle.rbbi_command.specs.Words.{Request, IsCommandLine, AreNoForm}
+use Rattle.rbbi_command.specs.Words.{Request, IsCommandLine}
 use Rattle.rbbi_command.specs.Files.{sources_of}
 use Rattle.rbbi_command.specs.Inputs.{Inputs}
 use Rattle.rbbi_command.specs.Reads.{MakesSomeReads}
@@ -20,9 +19,7 @@ filtered_bytes inputs = basis_bytes inputs + length inputs.filter.bytes
 abbrev pub given_bytes : Inputs → ℕ
 given_bytes inputs = filtered_bytes inputs + length inputs.script.bytes + length inputs.tests.bytes
 
--- What a run reads, where it reads so much at most while it writes. Where the words are of no form it reads no file; else it reads the
--- files of the request in order, and of them what the request reads.
+-- What a run reads, where it reads so much at most while it writes: the files of the request in order, and of them what the request reads.
 pub record ReadsInOrder (words : List (List ℕ)) (contents : Option (List ℕ → List ℕ)) (reads reads' : List ℕ → ℕ) (rest before now : ℕ) : Type 0 where
-  pub unread : AreNoForm words → EachStays reads reads'
   pub order : (request : Request) → IsCommandLine words request → IfSome contents (MakesSomeReads (sources_of request) reads reads')
   pub steps : (request : Request) → IsCommandLine words request → IfSome contents (λ held. ReadsByEnd rest (RequestReads request held) before now)

@@ -1,4 +1,4 @@
-use Rattle.std.proofs.Common.{◌∙◌, refl, sym, subst, arith}
+use Rattle.std.proofs.Common.{◌∙◌, refl, sym, ap, subst, arith}
 use Rattle.std.specs.Prelude.{IfSome}
 use Rattle.rbbi_io.specs.Counts.{EachGoesOn}
 use Rattle.rbbi_text.specs.Steps.{RisesUpTo}
@@ -6,8 +6,10 @@ use Rattle.rbbi_command.specs.Files.{sources_of}
 use Rattle.rbbi_command.specs.Reads.{MakesSomeReads}
 use Rattle.rbbi_tool.specs.inner.Prepared.{answer_of, outcome_of as prepared_outcome}
 use Rattle.rbbi_command.proofs.Reading.{always_told}
+use Rattle.rbbi_command.specs.Delivery.{MakesWrite}
+use Rattle.rbbi_tool.proofs.Calls.{calls_made, calls_cut}
 use Rattle.rbbi_tool.proofs.Counted.{reads_at_end}
-use Rattle.rbbi_tool.proofs.Runs.{is_answer, from_start, statuses_of, usage_of, no_form_of, outcome_of, read_failed_of, put_failed_of, front_of}
+use Rattle.rbbi_tool.proofs.Runs.{is_answer, from_start, statuses_of, usage_of, no_form_of, outcome_of, read_failed_of, unfailed_of, put_failed_of, front_of}
 use Rattle.rbbi_tool.proofs.Runs.{no_part_same, complete_of, each_of, unwritten_of, others_of_all}
 use Rattle.rbbi_tool.proofs.program.rbbi.Goals as goal
 
@@ -35,7 +37,12 @@ returns-in-Ok g c =
       statuses = statuses_of d;
       usage = usage_of d;
       no_form = no_form_of d;
-      unread = λ none name. after.reads name ∙ before.reading.unread none name;
+      uncalled = λ none.
+          subst (λ f. MakesWrite g.F.Files.write_gives f ran end) (answer.no_file (omega (arith, answer.form none))) after.call ∙ before.calls.unread none;
+      calls = λ request asks.
+          calls_made g.F.Files.read_gives g.F.Files.write_gives _ (sources_of request) start ran end (prepared_outcome c.in-Ok.prepared) c.emit.result
+          (g.K.Sink.taken c.args.out.now) (g.K.Sink.taken c.emit.new.out) answer.file after.status after.taken after.call (held start) (reads start)
+          (reads ran) (answer_of c.run-ended.result) (before.calls.reads request asks) before.comes c.in-Ok.ensures.gives;
       order = λ request asks.
           subst (λ now. IfSome (held start) (MakesSomeReads (sources_of request) (reads start) now)) (λ i name. sym (after.reads name) i)
           (before.reading.order request asks);
@@ -44,11 +51,13 @@ returns-in-Ok g c =
           (subst (λ n. RisesUpTo n c.run-ended.new.steps c.emit.new.steps) c.in-Ok.ensures.rest after.steps);
       outcome = outcome_of d;
       read_failed = read_failed_of d;
+      unfailed = unfailed_of d;
       put_failed = put_failed_of d;
       front = front_of d;
       complete = complete_of d;
       contents = each_of d;
-      unwritten = unwritten_of d (λ none. after.same none ∙ before.contents);
+      unwritten = unwritten_of d (λ none.
+          ap held (subst (λ f. MakesWrite g.F.Files.write_gives f ran end) none after.call) ∙ before.contents);
       others = others_of_all d;
       reads = subst (λ now. EachGoesOn (reads start) now) (λ i name. sym (after.reads name) i) before.reads;
       writes = subst (λ w. EachGoesOn w (writes end)) (λ i name. before.writes name i) after.writes;
@@ -67,3 +76,8 @@ returns-in-Err-clause-steps g c = λ request asks.
 pub returns-in-Err-clause-others : goal.returns-in-Err-clause-others
 returns-in-Err-clause-others g c =
     always_told (g.F.Files.contents c.args.files.now) _ (λ held name other. c.run-ended.ensures.writes name)
+
+pub returns-in-Err-clause-calls : goal.returns-in-Err-clause-calls
+returns-in-Err-clause-calls g c = λ request asks.
+    calls_cut g.F.Files.read_gives g.F.Files.write_gives _ (sources_of request) c.args.files.now c.run-ended.new.files _ (answer_of c.run-ended.result)
+    (c.run-ended.ensures.calls.reads request asks)
