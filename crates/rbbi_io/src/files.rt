@@ -28,12 +28,10 @@ pub trait Files {
 
     /// What a read of a name within a limit answers and leaves, where the files say more of it than
     /// is said below.
-    ghost read_gives: { Self → List ℕ → ℕ → Result (List ℕ) ReadErr → Self → Type 0 } =
-        { λ _ _ _ _ _. ⊤ };
+    ghost read_gives: { Self → List ℕ → ℕ → Result (List ℕ) ReadErr → Self → Type 0 } = { λ _ _ _ _ _. ⊤ };
 
     /// What a write of bytes to a name answers and leaves, likewise.
-    ghost write_gives: { Self → List ℕ → List ℕ → Result (Unit {0}) WriteErr → Self → Type 0 } =
-        { λ _ _ _ _ _. ⊤ };
+    ghost write_gives: { Self → List ℕ → List ℕ → Result (Unit {0}) WriteErr → Self → Type 0 } = { λ _ _ _ _ _. ⊤ };
 
     /// All bytes that the name holds, at most `limit`. A read changes no content.
     ///

@@ -80,9 +80,8 @@ impl<'a, R: Files + Alloc> Target for RealTarget<'a, R> {
         match fs::rename(self.rt, draft.path.as_path(), draft.replaced.path.as_str()) {
             Ok(()) => Ok(true),
             Err(fault) => match fault.kind() {
-                ErrorKind::PermissionDenied
-                | ErrorKind::ResourceBusy
-                | ErrorKind::CrossesDevices => Ok(false),
+                ErrorKind::PermissionDenied | ErrorKind::ResourceBusy | ErrorKind::CrossesDevices =>
+                    Ok(false),
                 _ => Err(fault),
             },
         }
@@ -187,10 +186,7 @@ fn replaced_by<R: Files + Alloc>(rt: &R, name: &str) -> io::Result<Option<Replac
 /// A new, empty file in the folder of the one that it is to replace. Its name is `.rbbi-` with the
 /// first number that no file there has, and it is made only if it isn't there, so no two runs have
 /// one draft. Nothing where the folder forbids new files.
-fn draft_of<R: Files + Alloc>(
-    rt: &R,
-    replaced: Replaced<R::A>,
-) -> io::Result<Option<Draft<R>>> {
+fn draft_of<R: Files + Alloc>(rt: &R, replaced: Replaced<R::A>) -> io::Result<Option<Draft<R>>> {
     for number in 0..u64::MAX {
         let name = format!(in rt.alloc(); ".rbbi-{number}")?;
         let path = Path::new(replaced.path.as_str()).with_file_name(rt.alloc(), name.as_str())?;
