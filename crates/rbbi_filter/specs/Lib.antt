@@ -1,6 +1,7 @@
 pub mod Abbreviations
 pub mod AbbreviationFiles
 pub mod Pairs
+pub mod Closures
 pub mod PairFiles
 pub mod Filters
 pub mod FilterCosts

@@ -6,7 +6,7 @@ ghost use Rattle.rbbi_filter.specs.Filters.{searched, tells};
 ghost use Rattle.rbbi_filter.specs.FilterCosts.{telling_cost};
 
 use crate::window::is_suppressed;
-use crate::{Abbreviations, ByList, Tailoring};
+use crate::{Abbreviations, Tailoring};
 use rbbi_text::{Chars, Steps};
 use std::sync::ledger::Ledger;
 
@@ -29,7 +29,7 @@ impl Filter {
     {
         match self {
             Filter::Suppressing(list) => {
-                !is_suppressed(text, at, list, &ByList::new(list), steps)
+                !is_suppressed(text, at, list, &|w: &[char]| list.ends(w), steps)
             }
             Filter::Turning(_) => true,
         }

@@ -1,10 +1,9 @@
 //! A session that leaves out boundaries before which an abbreviation stands.
-ghost use Rattle.std.specs.Prelude.{◌≡◌, ◌≤◌, ℕ, Bool, List, length};
-ghost use Rattle.rbbi_model.specs.Words.{IsText};
-ghost use Rattle.rbbi_filter.specs.Abbreviations.{window_size, ends};
+ghost use Rattle.rbbi_filter.specs.Closures.{TellsEnds};
 ghost use Rattle.rbbi_filter.specs.declared.filter.Filter.TheVariants.{Suppressing};
 ghost use Rattle.rbbi_filter.specs.FilterSessions.{FilterSession, HasTrueRuns, IsOpened};
 
+use crate::through::Through;
 use crate::walk::Walk;
 use crate::window::is_suppressed;
 use crate::{Abbreviations, Predicate};
@@ -14,11 +13,13 @@ use std::marker::Model;
 use std::sync::ledger::Ledger;
 
 /// A session that doesn't tell a boundary within the text where a predicate is true of the
-/// characters before it, at most 64: that is where they end with an abbreviation of a list.
-///
-/// Its questions are those of [`Walk`], by the boundaries that are left.
+/// characters before it, at most 64: that is where they end with an abbreviation of a list. Its
+/// answers are by the boundaries that are left.
+pub type Filtered<'a, T, P> = Through<Suppressed<'a, T, P>>;
+
+/// A session, and the abbreviations behind which no boundary is told.
 #[derive(Drop)]
-pub struct Filtered<'a, T: EditText, P: Predicate> {
+pub struct Suppressed<'a, T: EditText, P: Predicate> {
     /// Its cursor stands at a boundary that is told.
     session: Session<'a, T>,
     /// The abbreviations of which the predicate tells.
@@ -26,59 +27,51 @@ pub struct Filtered<'a, T: EditText, P: Predicate> {
     keep: P,
 }
 
-impl<'a, T: EditText, P: Predicate> Model for Filtered<'a, T, P> {
+impl<'a, T: EditText, P: Predicate> Model for Suppressed<'a, T, P> {
     ghost use Rattle.rbbi_filter.specs.FilterSessions.{FilterSession};
     ghost use Rattle.rbbi_filter.specs.declared.filter.Filter.TheVariants.{Suppressing};
 
     ghost Value = { FilterSession };
 
-    ghost use Rattle.rbbi_filter.specs.inner.Windows.{TellsEnds, IsAtKept};
+    ghost use Rattle.rbbi_filter.specs.Closures.{TellsEnds};
+    ghost use Rattle.rbbi_filter.specs.inner.Windows.{IsAtKept};
 
-    ghost view = { λ filtered. record {
-      filter = Suppressing filtered.list.now;
-      table = filtered.session.table;
-      state = filtered.session.state;
-      runs = filtered.session.runs;
+    ghost view = { λ suppressed. record {
+      filter = Suppressing suppressed.list.now;
+      table = suppressed.session.table;
+      state = suppressed.session.state;
+      runs = suppressed.session.runs;
     } };
 
-    ghost invariant = { λ filtered. IsAtKept filtered.list.now filtered.session.state
-        × TellsEnds (P.can_tell filtered.keep) (P.tells filtered.keep) filtered.list.now };
+    ghost invariant = { λ suppressed. IsAtKept suppressed.list.now suppressed.session.state
+        × TellsEnds (P.can_tell suppressed.keep) (P.tells suppressed.keep) suppressed.list.now };
 }
 
-impl<'a, T: EditText, P: Predicate> Filtered<'a, T, P> {
+impl<'a, T: EditText, P: Predicate> Through<Suppressed<'a, T, P>> {
     /// The session through these abbreviations, with the cursor at 0. `keep` tells of at most 64
     /// characters before a boundary whether they end with one of them. It takes no memory.
     pub fn open(session: Session<'a, T>, list: &'a Abbreviations, keep: P) -> Filtered<'a, T, P>
-        requires callable { (w : List ℕ) → IsText w → length w ≤ window_size
-            → P.can_tell keep w }
-        requires answers { (w : List ℕ) (is : Bool) → IsText w → length w ≤ window_size
-            → P.tells keep w is → is ≡ ends list.now w }
+        requires { TellsEnds (P.can_tell keep) (P.tells keep) list.now }
         ensures opened { IsOpened (Suppressing list.now) session.entry.table
             session.entry.state.text result }
         ensures are_true { HasTrueRuns result }
     {
         let mut session = session;
         session.first();
-        Filtered {
-            session,
-            list,
-            keep,
+        Through {
+            walk: Suppressed {
+                session,
+                list,
+                keep,
+            },
         }
-    }
-
-    /// That each kept run is true of the text as it is now. It is there for proofs, and does
-    /// nothing when it runs.
-    pub fn runs_are_true(&self)
-        ensures { HasTrueRuns self.now }
-    {
-        self.session.runs_are_true();
     }
 }
 
-impl<T: EditText, P: Predicate> Walk for Filtered<'_, T, P> {
+impl<T: EditText, P: Predicate> Walk for Suppressed<'_, T, P> {
     type Text = T;
 
-    ghost session = { λ filtered. filtered };
+    ghost session = { λ suppressed. suppressed };
 
     fn text(&self) -> &T {
         self.session.text()
@@ -132,5 +125,9 @@ impl<T: EditText, P: Predicate> Walk for Filtered<'_, T, P> {
         steps: &mut Steps<L>,
     ) -> Result<(), EditErr> {
         self.session.replace(at, remove, insert, steps)
+    }
+
+    fn runs_are_true(&self) {
+        self.session.runs_are_true();
     }
 }

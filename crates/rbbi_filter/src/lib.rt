@@ -8,7 +8,7 @@
 #![tactic(auto)]
 
 mod abbreviation;
-mod char_map;
+mod closures;
 mod filter;
 mod filtered;
 mod laws;
@@ -16,21 +16,20 @@ mod listing;
 mod mapped;
 mod pair;
 mod performing;
-mod predicate;
 mod tailored;
 mod tailoring;
+mod through;
 mod walk;
 mod window;
 
 pub use abbreviation::{AbbrErr, Abbreviations};
-pub use char_map::{ByPairs, CharMap};
+pub use closures::{CharMap, Predicate};
 pub use filter::Filter;
 pub use filtered::Filtered;
 pub use laws::{one_abbreviations, one_tailoring, turned_splices};
 pub use mapped::Mapped;
 pub use pair::Pair;
-pub use performing::{perform_filtered, perform_tailored, perform_through};
-pub use predicate::{ByList, Predicate};
+pub use performing::{Performing, perform_filtered, perform_tailored};
 pub use tailored::Tailored;
 pub use tailoring::{TailorErr, Tailoring};
-pub use walk::Walk;
+pub use through::Through;

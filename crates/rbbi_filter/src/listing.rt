@@ -8,6 +8,7 @@ ghost use Rattle.rbbi_filter.specs.FilterSessions.{boundaries_of};
 ghost use Rattle.rbbi_filter.specs.Performing.{Performs, IsPaid};
 ghost use Rattle.rbbi_filter.specs.inner.Listing.{nexts_cost, IsSameBut};
 
+use crate::through::Through;
 use crate::walk::Walk;
 use rbbi_script::say_bound;
 use rbbi_text::Steps;
@@ -16,13 +17,13 @@ use std::sync::ledger::Ledger;
 
 /// Appends a line for each boundary, and leaves the cursor where it was.
 pub(crate) fn say_boundaries<W: Walk, L: Ledger>(
-    session: &mut W,
+    session: &mut Through<W>,
     reply: &mut Vec<u8>,
     steps: &mut Steps<L>,
 ) -> Result<(), AllocError>
-    ensures replies { Performs (W.session session.old) (Ask Breaks) reply.old.items
-        result (W.session session.new) reply.new.items }
-    ensures cost { IsPaid (W.session session.old) (Ask Breaks) steps.old steps.new }
+    ensures replies { Performs session.old (Ask Breaks) reply.old.items
+        result session.new reply.new.items }
+    ensures cost { IsPaid session.old (Ask Breaks) steps.old steps.new }
 {
     let cursor = session.current();
     let said = say_each(session, reply, steps);
@@ -32,15 +33,15 @@ pub(crate) fn say_boundaries<W: Walk, L: Ledger>(
 
 /// Goes from boundary to boundary, and appends a line for each.
 fn say_each<W: Walk, L: Ledger>(
-    session: &mut W,
+    session: &mut Through<W>,
     reply: &mut Vec<u8>,
     steps: &mut Steps<L>,
 ) -> Result<(), AllocError>
-    ensures lines { Appends reply.old.items (boundary_lines (boundaries_of (W.session session.old)))
+    ensures lines { Appends reply.old.items (boundary_lines (boundaries_of session.old))
         result reply.new.items }
-    ensures same { IsSameBut (W.session session.old) (W.session session.new) }
-    ensures cost { RisesUpTo (nexts_cost (W.session session.old)
-        (boundaries_of (W.session session.old))) steps.old steps.new }
+    ensures same { IsSameBut session.old session.new }
+    ensures cost { RisesUpTo (nexts_cost session.old
+        (boundaries_of session.old)) steps.old steps.new }
 {
     let mut place = Some(session.first());
     while let Some(at) = place {

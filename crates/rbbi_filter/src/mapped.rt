@@ -1,7 +1,7 @@
 //! A text whose characters are turned by a map.
-ghost use Rattle.std.specs.Prelude.{◌≡◌, ℕ};
-ghost use Rattle.rbbi_model.specs.Words.{IsCharacter};
-ghost use Rattle.rbbi_filter.specs.Pairs.{turn, turned};
+ghost use Rattle.std.specs.Prelude.{◌≡◌};
+ghost use Rattle.rbbi_filter.specs.Closures.{Turns};
+ghost use Rattle.rbbi_filter.specs.Pairs.{turned};
 
 use crate::{CharMap, Tailoring};
 use rbbi_text::{Chars, Steps};
@@ -21,7 +21,7 @@ pub struct Mapped<'a, T: Chars, G: CharMap> {
 impl<'a, T: Chars, G: CharMap> Model for Mapped<'a, T, G> {
     ghost use Rattle.std.specs.Prelude.{List, ℕ};
     ghost use Rattle.rbbi_filter.specs.Pairs.{turned};
-    ghost use Rattle.rbbi_filter.specs.inner.Turning.{Turns};
+    ghost use Rattle.rbbi_filter.specs.Closures.{Turns};
 
     ghost Value = { List ℕ };
 
@@ -34,9 +34,7 @@ impl<'a, T: Chars, G: CharMap> Model for Mapped<'a, T, G> {
 impl<'a, T: Chars, G: CharMap> Mapped<'a, T, G> {
     /// The text as the map turns its characters: as these pairs say.
     pub fn new(text: &'a T, pairs: &'a Tailoring, map: &'a G) -> Mapped<'a, T, G>
-        requires callable { (c : ℕ) → IsCharacter c → G.can_map map.now c }
-        requires answers { (c : ℕ) (to : ℕ) → IsCharacter c → G.maps map.now c to
-            → to ≡ turn pairs.now c }
+        requires { Turns (G.can_map map.now) (G.maps map.now) pairs.now }
         ensures { result ≡ turned pairs.now (T.characters text.now) }
     {
         Mapped { text, pairs, map }

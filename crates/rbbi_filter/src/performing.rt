@@ -6,6 +6,7 @@ ghost use Rattle.rbbi_filter.specs.FilterSessions.{HasTrueRuns};
 ghost use Rattle.rbbi_filter.specs.Performing.{Performs, IsPaid};
 
 use crate::listing::say_boundaries;
+use crate::through::Through;
 use crate::walk::Walk;
 use crate::{CharMap, Filtered, Predicate, Tailored};
 use rbbi_script::{Command, Said, place_said, say, say_list, say_text, test_said};
@@ -58,17 +59,62 @@ pub fn perform_tailored<T: EditText, G: CharMap, L: Ledger>(
     said
 }
 
-/// Performs a command by a session through a filter, and appends the lines of its reply, as the two
-/// above do.
-pub fn perform_through<W: Walk, L: Ledger>(
-    session: &mut W,
+/// A session through a filter, for a caller that has either. It performs commands by
+/// [`perform_filtered`] or [`perform_tailored`].
+pub trait Performing {
+    ghost use Rattle.rbbi_filter.specs.FilterSessions.{FilterSession};
+
+    /// What contracts see of the session.
+    ghost session: { Self → FilterSession };
+
+    /// Performs a command, and appends the lines of its reply.
+    fn perform<L: Ledger>(
+        &mut self,
+        command: &Command,
+        reply: &mut Vec<u8>,
+        steps: &mut Steps<L>,
+    ) -> Result<(), AllocError>
+        ensures replies { Performs (session self.old) (meaning command.now) reply.old.items
+            result (session self.new) reply.new.items }
+        ensures cost { IsPaid (session self.old) (meaning command.now) steps.old steps.new };
+}
+
+impl<T: EditText, P: Predicate> Performing for Filtered<'_, T, P> {
+    ghost session = { λ session. session };
+
+    fn perform<L: Ledger>(
+        &mut self,
+        command: &Command,
+        reply: &mut Vec<u8>,
+        steps: &mut Steps<L>,
+    ) -> Result<(), AllocError> {
+        perform_filtered(self, command, reply, steps)
+    }
+}
+
+impl<T: EditText, G: CharMap> Performing for Tailored<'_, T, G> {
+    ghost session = { λ session. session };
+
+    fn perform<L: Ledger>(
+        &mut self,
+        command: &Command,
+        reply: &mut Vec<u8>,
+        steps: &mut Steps<L>,
+    ) -> Result<(), AllocError> {
+        perform_tailored(self, command, reply, steps)
+    }
+}
+
+/// Performs a command by a session through a filter, as the two above do.
+fn perform_through<W: Walk, L: Ledger>(
+    session: &mut Through<W>,
     command: &Command,
     reply: &mut Vec<u8>,
     steps: &mut Steps<L>,
 ) -> Result<(), AllocError>
-    ensures replies { Performs (W.session session.old) (meaning command.now) reply.old.items
-        result (W.session session.new) reply.new.items }
-    ensures cost { IsPaid (W.session session.old) (meaning command.now) steps.old steps.new }
+    ensures replies { Performs session.old (meaning command.now) reply.old.items
+        result session.new reply.new.items }
+    ensures cost { IsPaid session.old (meaning command.now) steps.old steps.new }
 {
     match command {
         Command::First => say(Said::Place(session.first()), reply),
@@ -89,16 +135,16 @@ pub fn perform_through<W: Walk, L: Ledger>(
 
 /// Performs an edit.
 fn edit<W: Walk, L: Ledger>(
-    session: &mut W,
+    session: &mut Through<W>,
     at: u32,
     remove: u32,
     text: &Word,
     reply: &mut Vec<u8>,
     steps: &mut Steps<L>,
 ) -> Result<(), AllocError>
-    ensures replies { Performs (W.session session.old) (model.Replace at remove text.now)
-        reply.old.items result (W.session session.new) reply.new.items }
-    ensures cost { IsPaid (W.session session.old) (model.Replace at remove text.now)
+    ensures replies { Performs session.old (model.Replace at remove text.now)
+        reply.old.items result session.new reply.new.items }
+    ensures cost { IsPaid session.old (model.Replace at remove text.now)
         steps.old steps.new }
 {
     match session.replace(at, remove, text.as_str(), steps) {

@@ -1,10 +1,10 @@
 //! A session that looks for boundaries in a text whose characters are turned by a map.
-ghost use Rattle.std.specs.Prelude.{◌≡◌, ℕ, IfOk};
-ghost use Rattle.rbbi_model.specs.Words.{IsCharacter};
-ghost use Rattle.rbbi_filter.specs.Pairs.{turn};
+ghost use Rattle.std.specs.Prelude.{IfOk};
+ghost use Rattle.rbbi_filter.specs.Closures.{Turns};
 ghost use Rattle.rbbi_filter.specs.declared.filter.Filter.TheVariants.{Turning};
-ghost use Rattle.rbbi_filter.specs.FilterSessions.{HasTrueRuns, IsOpened};
+ghost use Rattle.rbbi_filter.specs.FilterSessions.{IsOpened};
 
+use crate::through::Through;
 use crate::walk::Walk;
 use crate::{CharMap, Mapped, Tailoring};
 use rbbi_cache::Cache;
@@ -16,13 +16,13 @@ use std::marker::Model;
 use std::sync::ledger::Ledger;
 
 /// A session that answers by the boundaries of its text as a map turns the characters: by that of
-/// some pairs.
-///
-/// It keeps the text as it is, and boundaries that were found in the text as it is turned. Its
-/// questions are those of [`Walk`]: each answer is the one that a scan of the turned text gives, at
-/// the costs that `rbbi_session::Session` has over that text.
+/// some pairs. Each answer is the one that a scan of the turned text gives, at the costs that
+/// `rbbi_session::Session` has over that text.
+pub type Tailored<'a, T, G> = Through<Turned<'a, T, G>>;
+
+/// A text as it is, and boundaries that were found in the text as it is turned.
 #[derive(Drop)]
-pub struct Tailored<'a, T: EditText, G: CharMap> {
+pub struct Turned<'a, T: EditText, G: CharMap> {
     table: &'a Table,
     text: T,
     /// The pairs by which the map turns characters.
@@ -36,7 +36,7 @@ pub struct Tailored<'a, T: EditText, G: CharMap> {
     cache: Cache,
 }
 
-impl<'a, T: EditText, G: CharMap> Model for Tailored<'a, T, G> {
+impl<'a, T: EditText, G: CharMap> Model for Turned<'a, T, G> {
     ghost use Rattle.rbbi_filter.specs.FilterSessions.{FilterSession};
     ghost use Rattle.rbbi_filter.specs.declared.filter.Filter.TheVariants.{Turning};
 
@@ -44,22 +44,22 @@ impl<'a, T: EditText, G: CharMap> Model for Tailored<'a, T, G> {
 
     ghost use Rattle.rbbi_session.specs.Scans.{IsConsistent};
     ghost use Rattle.rbbi_filter.specs.Pairs.{turned};
-    ghost use Rattle.rbbi_filter.specs.inner.Turning.{Turns};
+    ghost use Rattle.rbbi_filter.specs.Closures.{Turns};
 
-    ghost view = { λ tailored. record {
-      filter = Turning tailored.pairs.now;
-      table = tailored.table.now;
-      state = record { text = T.characters tailored.text; cursor = tailored.at };
-      runs = tailored.cache.runs;
+    ghost view = { λ turning. record {
+      filter = Turning turning.pairs.now;
+      table = turning.table.now;
+      state = record { text = T.characters turning.text; cursor = turning.at };
+      runs = turning.cache.runs;
     } };
 
-    ghost invariant = { λ tailored. IsConsistent tailored.table.now
-        (turned tailored.pairs.now (T.characters tailored.text))
-        tailored.at tailored.status tailored.cache.runs tailored.cache.slashes
-        × Turns (G.can_map tailored.map) (G.maps tailored.map) tailored.pairs.now };
+    ghost invariant = { λ turning. IsConsistent turning.table.now
+        (turned turning.pairs.now (T.characters turning.text))
+        turning.at turning.status turning.cache.runs turning.cache.slashes
+        × Turns (G.can_map turning.map) (G.maps turning.map) turning.pairs.now };
 }
 
-impl<'a, T: EditText + Drop, G: CharMap + Drop> Tailored<'a, T, G> {
+impl<'a, T: EditText + Drop, G: CharMap + Drop> Through<Turned<'a, T, G>> {
     /// A session over a text, with the cursor at 0. `map` turns characters as these pairs say.
     /// After the refusal the text is dropped.
     pub fn open(
@@ -69,40 +69,30 @@ impl<'a, T: EditText + Drop, G: CharMap + Drop> Tailored<'a, T, G> {
         pairs: &'a Tailoring,
         map: G,
     ) -> Result<Tailored<'a, T, G>, AllocError>
-        requires callable { (c : ℕ) → IsCharacter c → G.can_map map c }
-        requires answers { (c : ℕ) (to : ℕ) → IsCharacter c → G.maps map c to
-            → to ≡ turn pairs.now c }
-        ensures { IfOk result (λ tailored.
-            IsOpened (Turning pairs.now) table.now (T.characters text) tailored) }
+        requires { Turns (G.can_map map) (G.maps map) pairs.now }
+        ensures { IfOk result (λ session.
+            IsOpened (Turning pairs.now) table.now (T.characters text) session) }
     {
         table.valid();
         let cache = Cache::new(alloc, table)?;
-        Ok(Tailored {
-            table,
-            text,
-            pairs,
-            map,
-            at: 0,
-            status: 0,
-            cache,
+        Ok(Through {
+            walk: Turned {
+                table,
+                text,
+                pairs,
+                map,
+                at: 0,
+                status: 0,
+                cache,
+            },
         })
     }
 }
 
-impl<'a, T: EditText, G: CharMap> Tailored<'a, T, G> {
-    /// That each kept run is true of the turned text as it is now. It is there for proofs, and does
-    /// nothing when it runs.
-    pub fn runs_are_true(&self)
-        ensures { HasTrueRuns self.now }
-    {
-        let _text = &self.text;
-    }
-}
-
-impl<T: EditText, G: CharMap> Walk for Tailored<'_, T, G> {
+impl<T: EditText, G: CharMap> Walk for Turned<'_, T, G> {
     type Text = T;
 
-    ghost session = { λ tailored. tailored };
+    ghost session = { λ turning. turning };
 
     fn text(&self) -> &T {
         &self.text
@@ -171,5 +161,9 @@ impl<T: EditText, G: CharMap> Walk for Tailored<'_, T, G> {
         self.at = 0;
         self.status = 0;
         Ok(())
+    }
+
+    fn runs_are_true(&self) {
+        let _text = &self.text;
     }
 }

@@ -3,7 +3,7 @@ ghost use Rattle.std.specs.Prelude.{◌≡◌, ◌+◌, ◌≤◌, min, length, 
 ghost use Rattle.rbbi_text.specs.Steps.{RisesUpTo};
 ghost use Rattle.rbbi_filter.specs.Abbreviations as spec;
 ghost use Rattle.rbbi_filter.specs.Abbreviations.{window_size};
-ghost use Rattle.rbbi_filter.specs.inner.Windows.{TellsEnds};
+ghost use Rattle.rbbi_filter.specs.Closures.{TellsEnds};
 
 use crate::{Abbreviations, Predicate};
 use rbbi_text::{Chars, Steps};

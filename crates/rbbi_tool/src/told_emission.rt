@@ -1,10 +1,12 @@
 //! The lines of boundaries and replies through a filter, as they go out.
-ghost use Rattle.std.specs.Prelude.{◌≤◌, ◌++◌, map, length, OnOk, OnErr, IsErrOf};
+ghost use Rattle.std.specs.Prelude.{◌≡◌, ◌≤◌, ◌++◌, map, length, OnOk, OnErr, IsErrOf};
 ghost use Rattle.rbbi_model.specs.Searches.{table_boundaries};
 ghost use Rattle.rbbi_model.specs.Scripts.{opened};
 ghost use Rattle.rbbi_model.specs.Lines.{boundary_lines, all_reply_lines};
 ghost use Rattle.rbbi_text.specs.Steps.{RisesUpTo};
 ghost use Rattle.rbbi_script.specs.Meaning.{meaning};
+ghost use Rattle.rbbi_filter.specs.Closures.{TellsEnds, Turns};
+ghost use Rattle.rbbi_filter.specs.declared.filter.Filter.TheVariants.{Suppressing, Turning};
 ghost use Rattle.rbbi_filter.specs.Filters.{boundaries_through};
 ghost use Rattle.rbbi_filter.specs.FilterCosts.{telling_cost, breaks_through, commands_through};
 ghost use Rattle.rbbi_io.specs.Counts.{Rose, GoesOn};
@@ -13,7 +15,9 @@ ghost use Rattle.rbbi_io.specs.declared.error.WriteErr.TheVariants.{Failed};
 ghost use Rattle.rbbi_tool.specs.Filters.{replies_through};
 ghost use Rattle.rbbi_tool.specs.inner.Filters.{replies_of, told_line, told_lines, scan_cost};
 
-use rbbi_filter::{ByList, ByPairs, Filter, Filtered, Mapped, Tailored, Walk, perform_through};
+use rbbi_filter::{
+    Abbreviations, CharMap, Filter, Filtered, Mapped, Performing, Predicate, Tailored, Tailoring,
+};
 use rbbi_io::{Sink, WriteErr, put_all, put_when_full};
 use rbbi_script::{Commands, say_bound};
 use rbbi_session::Session;
@@ -87,30 +91,56 @@ fn put_told_boundaries<T: Chars, K: Sink, L: Ledger>(
 }
 
 /// Puts the lines of the replies to all commands, in pieces.
-fn put_told_replies<W: Walk, K: Sink, L: Ledger>(
+fn put_told_replies<S: Performing, K: Sink, L: Ledger>(
     alloc: Global,
-    session: &mut W,
+    session: &mut S,
     commands: &Commands,
     out: &mut K,
     steps: &mut Steps<L>,
 ) -> Result<(), WriteErr>
     ensures ok { OnOk result (Takes (K.taken out.old) (K.taken out.new)
-        (all_reply_lines (replies_of (W.session session.old) (map meaning commands.now)))) }
+        (all_reply_lines (replies_of (S.session session.old) (map meaning commands.now)))) }
     ensures err { OnErr result (TakesFront (K.taken out.old) (K.taken out.new)
-        (all_reply_lines (replies_of (W.session session.old) (map meaning commands.now)))) }
+        (all_reply_lines (replies_of (S.session session.old) (map meaning commands.now)))) }
     ensures faults { GoesOn (K.faults out.old) (K.faults out.new) }
     ensures failed { IsErrOf result Failed → Rose (K.faults out.old) (K.faults out.new) }
-    ensures steps { let old = W.session session.old in
+    ensures steps { let old = S.session session.old in
         RisesUpTo (commands_through old.filter old.table old.state (map meaning commands.now))
         steps.old steps.new }
 {
     let mut made = Vec::new(alloc);
     for i in 0..commands.len() {
-        perform_through(session, commands.get(i), &mut made, steps)?;
+        session.perform(commands.get(i), &mut made, steps)?;
         put_when_full(out, &mut made)?;
     }
     put_all(out, &made)?;
     Ok(())
+}
+
+/// Puts the lines of all boundaries of a text by a table, as `map` turns its characters: by the
+/// pairs of a filter, in pieces.
+fn put_turned_boundaries<G: CharMap, K: Sink, L: Ledger>(
+    alloc: Global,
+    table: &Table,
+    text: &PlainText,
+    pairs: &Tailoring,
+    map: &G,
+    filter: &Filter,
+    out: &mut K,
+    steps: &mut Steps<L>,
+) -> Result<(), WriteErr>
+    requires pairs { filter.now ≡ Turning pairs.now }
+    requires turns { Turns (G.can_map map.now) (G.maps map.now) pairs.now }
+    ensures ok { OnOk result (Takes (K.taken out.old) (K.taken out.new)
+        (boundary_lines (boundaries_through filter.now table.now text.now))) }
+    ensures err { OnErr result (TakesFront (K.taken out.old) (K.taken out.new)
+        (boundary_lines (boundaries_through filter.now table.now text.now))) }
+    ensures faults { GoesOn (K.faults out.old) (K.faults out.new) }
+    ensures failed { IsErrOf result Failed → Rose (K.faults out.old) (K.faults out.new) }
+    ensures steps { RisesUpTo (breaks_through filter.now table.now text.now 0) steps.old steps.new }
+{
+    let turned = Mapped::new(text, pairs, map);
+    put_told_boundaries(alloc, table, &turned, filter, out, steps)
 }
 
 /// Puts the lines of all boundaries of a text by a table that are told through a filter, in pieces.
@@ -133,11 +163,67 @@ pub(crate) fn put_boundaries_through<K: Sink, L: Ledger>(
     match filter {
         Filter::Suppressing(_) => put_told_boundaries(alloc, table, text, filter, out, steps),
         Filter::Turning(pairs) => {
-            let map = ByPairs::new(pairs);
-            let turned = Mapped::new(text, pairs, &map);
-            put_told_boundaries(alloc, table, &turned, filter, out, steps)
+            let map = |c: char| pairs.turn(c);
+            put_turned_boundaries(alloc, table, text, pairs, &map, filter, out, steps)
         }
     }
+}
+
+/// Puts the lines of the replies to all commands over a text, by those of its boundaries by a table
+/// that `keep` doesn't hide: those behind no abbreviation, in pieces.
+fn put_filtered_replies<P: Predicate + Drop, K: Sink, L: Ledger>(
+    alloc: Global,
+    table: &Table,
+    text: Pieces,
+    list: &Abbreviations,
+    keep: P,
+    commands: &Commands,
+    out: &mut K,
+    steps: &mut Steps<L>,
+) -> Result<(), WriteErr>
+    requires { TellsEnds (P.can_tell keep) (P.tells keep) list.now }
+    ensures ok { OnOk result (Takes (K.taken out.old) (K.taken out.new)
+        (all_reply_lines (replies_through (Suppressing list.now) table.now (opened text)
+        (map meaning commands.now)))) }
+    ensures err { OnErr result (TakesFront (K.taken out.old) (K.taken out.new)
+        (all_reply_lines (replies_through (Suppressing list.now) table.now (opened text)
+        (map meaning commands.now)))) }
+    ensures faults { GoesOn (K.faults out.old) (K.faults out.new) }
+    ensures failed { IsErrOf result Failed → Rose (K.faults out.old) (K.faults out.new) }
+    ensures steps { RisesUpTo (commands_through (Suppressing list.now) table.now (opened text)
+        (map meaning commands.now)) steps.old steps.new }
+{
+    let session = Session::open(alloc, table, text)?;
+    let mut session = Filtered::open(session, list, keep);
+    put_told_replies(alloc, &mut session, commands, out, steps)
+}
+
+/// Puts the lines of the replies to all commands over a text, by the boundaries by a table of the
+/// text as `turning` turns its characters: by these pairs, in pieces.
+fn put_tailored_replies<G: CharMap + Drop, K: Sink, L: Ledger>(
+    alloc: Global,
+    table: &Table,
+    text: Pieces,
+    pairs: &Tailoring,
+    turning: G,
+    commands: &Commands,
+    out: &mut K,
+    steps: &mut Steps<L>,
+) -> Result<(), WriteErr>
+    requires { Turns (G.can_map turning) (G.maps turning) pairs.now }
+    ensures ok { OnOk result (Takes (K.taken out.old) (K.taken out.new)
+        (all_reply_lines (replies_through (Turning pairs.now) table.now (opened text)
+        (map meaning commands.now)))) }
+    ensures err { OnErr result (TakesFront (K.taken out.old) (K.taken out.new)
+        (all_reply_lines (replies_through (Turning pairs.now) table.now (opened text)
+        (map meaning commands.now)))) }
+    ensures faults { GoesOn (K.faults out.old) (K.faults out.new) }
+    ensures failed { IsErrOf result Failed → Rose (K.faults out.old) (K.faults out.new) }
+    ensures steps { RisesUpTo (commands_through (Turning pairs.now) table.now (opened text)
+        (map meaning commands.now)) steps.old steps.new }
+{
+    let mut session = Tailored::open(alloc, table, text, pairs, turning)?;
+    put_told_replies(alloc, &mut session, commands, out, steps)
 }
 
 /// Puts the lines of the replies to all commands over a text, by the boundaries by a table that are
@@ -162,13 +248,12 @@ pub(crate) fn put_replies_through<K: Sink, L: Ledger>(
 {
     match filter {
         Filter::Suppressing(list) => {
-            let session = Session::open(alloc, table, text)?;
-            let mut session = Filtered::open(session, list, ByList::new(list));
-            put_told_replies(alloc, &mut session, commands, out, steps)
+            let keep = |w: &[char]| list.ends(w);
+            put_filtered_replies(alloc, table, text, list, keep, commands, out, steps)
         }
         Filter::Turning(pairs) => {
-            let mut session = Tailored::open(alloc, table, text, pairs, ByPairs::new(pairs))?;
-            put_told_replies(alloc, &mut session, commands, out, steps)
+            let turning = |c: char| pairs.turn(c);
+            put_tailored_replies(alloc, table, text, pairs, turning, commands, out, steps)
         }
     }
 }

@@ -1,14 +1,13 @@
 //! Random scripts through filters, each reply held against that of a plain list of the boundaries
 //! that are told, which is made anew for each command.
 ghost use Rattle.std.specs.Prelude.{◌≡◌, ◌<◌};
+ghost use Rattle.rbbi_filter.specs.Closures.{TellsEnds, Turns};
 
 use crate::draws::Draws;
 use crate::questions::{Boundary, Question, answer_on};
 use crate::rescans::{boundaries, status_at};
 use crate::tables::table_of;
-use rbbi_filter::{
-    Abbreviations, ByList, ByPairs, Filtered, Tailored, Tailoring, Walk, perform_through,
-};
+use rbbi_filter::{Abbreviations, CharMap, Filtered, Performing, Predicate, Tailored, Tailoring};
 use rbbi_script::{Command, Commands, read_script};
 use rbbi_session::Session;
 use rbbi_table::Table;
@@ -279,10 +278,11 @@ fn reply<L: Ledger>(
     }
 }
 
-/// The number of the first command, from 0, to which a session replies otherwise than the model.
-fn first_other<W: Walk, L: Ledger>(
+/// The number of the first command, from 0, to which a session replies otherwise than the model, or
+/// after which its cursor is elsewhere.
+fn first_other<S: Performing, L: Ledger>(
     alloc: Global,
-    session: &mut W,
+    session: &mut S,
     model: &mut Model<'_>,
     commands: &Commands,
     steps: &mut Steps<L>,
@@ -290,13 +290,49 @@ fn first_other<W: Walk, L: Ledger>(
     for i in 0..commands.len() {
         let command = commands.get(i);
         let mut said = Vec::new(alloc);
-        perform_through(session, command, &mut said, steps)?;
-        let wanted = reply(alloc, model, command, steps)?;
-        if said.as_slice() != wanted.as_bytes() || session.current() != model.cursor {
+        session.perform(command, &mut said, steps)?;
+        session.perform(&Command::Current, &mut said, steps)?;
+        let mut wanted = reply(alloc, model, command, steps)?;
+        let cursor = model.cursor;
+        wanted.push_str(format!(in alloc; "{cursor}\n")?.as_str())?;
+        if said.as_slice() != wanted.as_bytes() {
             return Ok(Some(i));
         }
     }
     Ok(None)
+}
+
+/// The same of a session past abbreviations, which keeps this predicate of them.
+fn first_other_filtered<P: Predicate + Drop, L: Ledger>(
+    alloc: Global,
+    text: Pieces,
+    list: &Abbreviations,
+    keep: P,
+    model: &mut Model<'_>,
+    commands: &Commands,
+    steps: &mut Steps<L>,
+) -> Result<Option<usize>, Fail>
+    requires { TellsEnds (P.can_tell keep) (P.tells keep) list.now }
+{
+    let session = Session::open(alloc, model.table, text)?;
+    let mut session = Filtered::open(session, list, keep);
+    first_other(alloc, &mut session, model, commands, steps)
+}
+
+/// The same of a session that turns characters, which keeps this map of them.
+fn first_other_tailored<G: CharMap + Drop, L: Ledger>(
+    alloc: Global,
+    text: Pieces,
+    pairs: &Tailoring,
+    map: G,
+    model: &mut Model<'_>,
+    commands: &Commands,
+    steps: &mut Steps<L>,
+) -> Result<Option<usize>, Fail>
+    requires { Turns (G.can_map map) (G.maps map) pairs.now }
+{
+    let mut session = Tailored::open(alloc, model.table, text, pairs, map)?;
+    first_other(alloc, &mut session, model, commands, steps)
 }
 
 /// The commands of a random script.
@@ -328,15 +364,13 @@ fn first_other_of_filter<L: Ledger>(
     match model.plain {
         Plain::Hiding(_) => {
             let list = Abbreviations::read(alloc, file)?;
-            let session = Session::open(alloc, model.table, text)?;
-            let mut session = Filtered::open(session, &list, ByList::new(&list));
-            first_other(alloc, &mut session, model, commands, steps)
+            let keep = |w: &[char]| list.ends(w);
+            first_other_filtered(alloc, text, &list, keep, model, commands, steps)
         }
         Plain::Turning(_) => {
             let pairs = Tailoring::read(alloc, file)?;
-            let map = ByPairs::new(&pairs);
-            let mut session = Tailored::open(alloc, model.table, text, &pairs, map)?;
-            first_other(alloc, &mut session, model, commands, steps)
+            let map = |c: char| pairs.turn(c);
+            first_other_tailored(alloc, text, &pairs, map, model, commands, steps)
         }
     }
 }

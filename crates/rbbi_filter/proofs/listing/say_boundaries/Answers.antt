@@ -8,9 +8,9 @@ use Rattle.rbbi_filter.proofs.listing.say_boundaries.Goals as goal
 
 pub returns-clause-replies : goal.returns-clause-replies
 returns-clause-replies g c =
-    let old = g.W.Walk.session c.args.session.now in
-    let now = g.W.Walk.session c.say_each-said.new.session in
-    let new = g.W.Walk.session c.is_boundary.new.self in
+    let old = c.args.session.now in
+    let now = c.say_each-said.new.session in
+    let new = c.is_boundary.new.self in
     let moved = c.is_boundary.ensures.answers.moved in
     says_all old now new c.args.reply.now.items c.say_each-said.new.reply.items c.say_each-said.result c.say_each-said.ensures.same
     (goes_back old now new c.current-cursor.result (test_reply c.is_boundary.result) c.say_each-said.ensures.same c.current-cursor.ensures.at
@@ -19,8 +19,8 @@ returns-clause-replies g c =
 
 pub returns-clause-cost : goal.returns-clause-cost
 returns-clause-cost g c =
-    let old = g.W.Walk.session c.args.session.now in
-    let now = g.W.Walk.session c.say_each-said.new.session in
+    let old = c.args.session.now in
+    let now = c.say_each-said.new.session in
     let p = c.current-cursor.result in
     let same = c.say_each-said.ensures.same in
     let asked = ap (λ f. question_through f now.table now.state.text now.state.cursor (IsBoundary p)) same.filter_is

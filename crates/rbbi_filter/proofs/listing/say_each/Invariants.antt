@@ -5,7 +5,7 @@ use Rattle.rbbi_filter.proofs.listing.say_each.Given as goal
 
 abbrev pub invariant-loop-place : goal.invariant-loop-place
 invariant-loop-place g l =
-    IsListed (g.W.Walk.session l.fn.session) (g.W.Walk.session l.session) l.place l.fn.reply.items l.reply.items l.fn.steps l.steps
+    IsListed l.fn.session l.session l.place l.fn.reply.items l.reply.items l.fn.steps l.steps
 
 abbrev pub decreases-loop-place : goal.decreases-loop-place
-decreases-loop-place g l = left_of (length (g.W.Walk.session l.fn.session).state.text) l.place
+decreases-loop-place g l = left_of (length l.fn.session.state.text) l.place

@@ -27,13 +27,13 @@ loop-i-preserved g c =
           replied_flushed _ _ _ _ _ _ _ _ _ _ _
           (replied_more _ _ _ _ _ _ _ _ (meaning c.get.result.now) (map meaning (drop (i + 1) commands))
           (next_left _ _ _ _ _ _ _ _ _ _ (mapped_left meaning commands i c.get.result.now within c.get.ensures) c.loop-i.invariant.replied)
-          _ _ _ c.in_ok-perform_through.ensures.replies c.perform_through.ensures.cost)
+          _ _ _ c.in_ok-perform.ensures.replies c.perform.ensures.cost)
           c.in_ok-put_when_full.ensures.ok;
       faults = search rules;
     }
 
-pub returns-in_err-perform_through-clause-err : goal.returns-in_err-perform_through-clause-err
-returns-in_err-perform_through-clause-err g c =
+pub returns-in_err-perform-clause-err : goal.returns-in_err-perform-clause-err
+returns-in_err-perform-clause-err g c =
     let told = err_from_is_err_and c.from_residual.result c.from_residual.ensures.1 in
     rw told.1 (put_stays _ _ _ _ _ c.loop-i.invariant.replied.put)
 
@@ -45,17 +45,17 @@ returns-in_err-put_when_full-clause-err g c =
     let within : c.loop-i.i < length c.args.commands.now = omega (arith, c.loop-i-test.true, c.len-i-end.ensures) in
     let replied = replied_more _ _ _ _ _ _ _ _ (meaning c.get.result.now) (map meaning (drop (i + 1) commands))
     (next_left _ _ _ _ _ _ _ _ _ _ (mapped_left meaning commands i c.get.result.now within c.get.ensures) c.loop-i.invariant.replied)
-    (g.W.Walk.session c.perform_through.new.session) c.perform_through.new.steps _ c.in_ok-perform_through.ensures.replies c.perform_through.ensures.cost in
+    (g.S.Performing.session c.perform.new.session) c.perform.new.steps _ c.in_ok-perform.ensures.replies c.perform.ensures.cost in
     rw told.1 (put_refused _ _ _ _ _ replied.put _ c.in_err-put_when_full.ensures.err)
 
-pub returns-in_err-perform_through-clause-steps : goal.returns-in_err-perform_through-clause-steps
-returns-in_err-perform_through-clause-steps g c =
+pub returns-in_err-perform-clause-steps : goal.returns-in_err-perform-clause-steps
+returns-in_err-perform-clause-steps g c =
     let commands : List Command = c.args.commands.now in
     let i : ℕ = c.loop-i.i in
     let within : c.loop-i.i < length c.args.commands.now = omega (arith, c.loop-i-test.true, c.len-i-end.ensures) in
     one_paid _ _ _ _ _ _ _ _ (meaning c.get.result.now) (map meaning (drop (i + 1) commands))
     (next_left _ _ _ _ _ _ _ _ _ _ (mapped_left meaning commands i c.get.result.now within c.get.ensures) c.loop-i.invariant.replied)
-    _ c.perform_through.ensures.cost
+    _ c.perform.ensures.cost
 
 pub returns-in_err-put_when_full-clause-steps : goal.returns-in_err-put_when_full-clause-steps
 returns-in_err-put_when_full-clause-steps g c =
@@ -64,7 +64,7 @@ returns-in_err-put_when_full-clause-steps g c =
     let within : c.loop-i.i < length c.args.commands.now = omega (arith, c.loop-i-test.true, c.len-i-end.ensures) in
     one_paid _ _ _ _ _ _ _ _ (meaning c.get.result.now) (map meaning (drop (i + 1) commands))
     (next_left _ _ _ _ _ _ _ _ _ _ (mapped_left meaning commands i c.get.result.now within c.get.ensures) c.loop-i.invariant.replied)
-    _ c.perform_through.ensures.cost
+    _ c.perform.ensures.cost
 
 pub returns-in_err-put_all-clause-err : goal.returns-in_err-put_all-clause-err
 returns-in_err-put_all-clause-err g c =
@@ -82,7 +82,7 @@ returns-clause-steps g c = all_paid _ _ _ _ _ _ _ _ _ c.loop-i.invariant.replied
 pub returns-clause-ok : goal.returns-clause-ok
 returns-clause-ok g c =
     put_end _ _ _ _ _ c.loop-i.invariant.replied.put
-    (ap (λ cs. all_reply_lines (replies_of (g.W.Walk.session c.loop-i.session) (map meaning cs)))
+    (ap (λ cs. all_reply_lines (replies_of (g.S.Performing.session c.loop-i.session) (map meaning cs)))
     (drop_all c.loop-i.i c.args.commands.now (omega (arith, c.loop-i-test.false, c.len-i-end.ensures))))
     _
     (subst (λ w. Takes (g.K.Sink.taken c.loop-i.out) (g.K.Sink.taken c.put_all.new.out) w) c.deref.ensures.value c.in_ok-put_all.ensures.ok)

@@ -4,9 +4,9 @@ use Rattle.rbbi_session.specs.Sessions.{place_reply}
 use Rattle.rbbi_session.specs.Sessions as plain
 use Rattle.rbbi_filter.specs.Abbreviations.{is_suppressed}
 use Rattle.rbbi_filter.proofs.Filtering.{same_at_first, looked_told, looked_hidden, back_there, back_stops, back_goes}
-use Rattle.rbbi_filter.proofs.filtered.FilteredWalk.before.Given.{Over}
-use Rattle.rbbi_filter.proofs.filtered.FilteredWalk.before.Goals as goal
-use Rattle.rbbi_filter.proofs.filtered.FilteredWalk.before.Goals.{After-text}
+use Rattle.rbbi_filter.proofs.filtered.SuppressedWalk.before.Given.{Over}
+use Rattle.rbbi_filter.proofs.filtered.SuppressedWalk.before.Goals as goal
+use Rattle.rbbi_filter.proofs.filtered.SuppressedWalk.before.Goals.{After-text}
 
 -- the session has gone to a boundary of its own
 answered : (g : Over) (c : After-text g) → plain.Answers c.loop-at.self-inside.session (Preceding c.loop-at.from) (place_reply (Some c.in-Some.at))

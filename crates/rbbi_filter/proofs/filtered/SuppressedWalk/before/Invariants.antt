@@ -1,6 +1,6 @@
-use Rattle.rbbi_filter.specs.inner.Windows.{TellsEnds}
+use Rattle.rbbi_filter.specs.Closures.{TellsEnds}
 use Rattle.rbbi_filter.proofs.Filtering.{IsPassingBack}
-use Rattle.rbbi_filter.proofs.filtered.FilteredWalk.before.Given as goal
+use Rattle.rbbi_filter.proofs.filtered.SuppressedWalk.before.Given as goal
 
 abbrev pub invariant-loop-at : goal.invariant-loop-at
 invariant-loop-at g l = record {

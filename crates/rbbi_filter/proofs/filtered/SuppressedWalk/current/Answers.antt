@@ -3,7 +3,7 @@ use Rattle.rbbi_model.specs.Cover.{IsPlaceOf}
 use Rattle.rbbi_session.specs.Sessions as plain
 use Rattle.rbbi_filter.specs.FilterSessions.{boundaries_of}
 use Rattle.rbbi_filter.proofs.Filtering.{told_place}
-use Rattle.rbbi_filter.proofs.filtered.FilteredWalk.current.Goals as goal
+use Rattle.rbbi_filter.proofs.filtered.SuppressedWalk.current.Goals as goal
 
 pub returns-clause-boundary : goal.returns-clause-boundary
 returns-clause-boundary g c =

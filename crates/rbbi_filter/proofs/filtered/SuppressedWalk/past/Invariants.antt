@@ -1,7 +1,7 @@
 use Rattle.std.proofs.Common.{◌-◌, length}
-use Rattle.rbbi_filter.specs.inner.Windows.{TellsEnds}
+use Rattle.rbbi_filter.specs.Closures.{TellsEnds}
 use Rattle.rbbi_filter.proofs.Filtering.{IsPassing}
-use Rattle.rbbi_filter.proofs.filtered.FilteredWalk.past.Given as goal
+use Rattle.rbbi_filter.proofs.filtered.SuppressedWalk.past.Given as goal
 
 abbrev pub invariant-loop-at : goal.invariant-loop-at
 invariant-loop-at g l = record {

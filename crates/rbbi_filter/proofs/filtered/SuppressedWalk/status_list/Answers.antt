@@ -3,7 +3,7 @@ use Rattle.rbbi_model.specs.Answers.{statuses_at}
 use Rattle.rbbi_session.specs.Sessions as plain
 use Rattle.rbbi_filter.specs.FilterSessions.{boundaries_of}
 use Rattle.rbbi_filter.proofs.Filtering.{told_statuses}
-use Rattle.rbbi_filter.proofs.filtered.FilteredWalk.status_list.Goals as goal
+use Rattle.rbbi_filter.proofs.filtered.SuppressedWalk.status_list.Goals as goal
 
 pub returns : goal.returns
 returns g c =

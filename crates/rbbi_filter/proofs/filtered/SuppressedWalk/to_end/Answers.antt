@@ -4,7 +4,7 @@ use Rattle.rbbi_model.proofs.Covering.{table_covers}
 use Rattle.rbbi_session.specs.Sessions as plain
 use Rattle.rbbi_filter.specs.Abbreviations.{is_suppressed}
 use Rattle.rbbi_filter.proofs.Covering.{end_is_told}
-use Rattle.rbbi_filter.proofs.filtered.FilteredWalk.to_end.Goals as goal
+use Rattle.rbbi_filter.proofs.filtered.SuppressedWalk.to_end.Goals as goal
 
 pub invariant_of-self : goal.invariant_of-self
 invariant_of-self g c =

@@ -3,7 +3,7 @@ use Rattle.std.specs.List.{AllByRecursion}
 use Rattle.rbbi_model.specs.Runs.{IsTrueRun}
 use Rattle.rbbi_session.proofs.Reaching.{reached_start}
 use Rattle.rbbi_filter.specs.Pairs.{turned}
-use Rattle.rbbi_filter.proofs.tailored.Tailored.open.Goals as goal
+use Rattle.rbbi_filter.proofs.tailored.Through+Turned+T+G.open.Goals as goal
 
 pub invariant_of-result : goal.invariant_of-result
 invariant_of-result g c =
@@ -13,5 +13,5 @@ invariant_of-result g c =
         fit = c.in_ok-cache.ensures.1;
         are_true = subst (AllByRecursion (IsTrueRun c.args.table.now x)) (sym c.in_ok-cache.ensures.0) tt;
       },
-      record { callable = c.requires.callable; answers = c.requires.answers },
+      c.requires,
     )

@@ -7,7 +7,7 @@ use Rattle.rbbi_session.proofs.Reaching.{reached_inside}
 use Rattle.rbbi_filter.specs.Pairs.{turn, turned}
 use Rattle.rbbi_filter.specs.FilterCosts.{back_through}
 use Rattle.rbbi_filter.proofs.Filtering.{preceding_is}
-use Rattle.rbbi_filter.proofs.tailored.TailoredWalk.before.Goals as goal
+use Rattle.rbbi_filter.proofs.tailored.TurnedWalk.before.Goals as goal
 
 pub invariant_of-self-2 : goal.invariant_of-self-2
 invariant_of-self-2 g c =

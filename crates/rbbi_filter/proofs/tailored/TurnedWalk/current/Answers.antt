@@ -3,7 +3,7 @@ use Rattle.rbbi_model.specs.Cover.{IsPlaceOf}
 use Rattle.rbbi_session.proofs.Reaching.{is_a_place}
 use Rattle.rbbi_filter.specs.Pairs.{turned}
 use Rattle.rbbi_filter.specs.FilterSessions.{boundaries_of}
-use Rattle.rbbi_filter.proofs.tailored.TailoredWalk.current.Goals as goal
+use Rattle.rbbi_filter.proofs.tailored.TurnedWalk.current.Goals as goal
 
 pub returns-clause-boundary : goal.returns-clause-boundary
 returns-clause-boundary g c =

@@ -2,7 +2,7 @@ use Rattle.std.proofs.Common.{◌∙◌, subst}
 use Rattle.rbbi_cache.specs.Kept.{AreTrueRuns, IsBoundaryOf}
 use Rattle.rbbi_session.proofs.Reaching.{reached_inside}
 use Rattle.rbbi_filter.specs.Pairs.{turned}
-use Rattle.rbbi_filter.proofs.tailored.TailoredWalk.past.Goals as goal
+use Rattle.rbbi_filter.proofs.tailored.TurnedWalk.past.Goals as goal
 
 pub invariant_of-self-2 : goal.invariant_of-self-2
 invariant_of-self-2 g c =

@@ -5,7 +5,7 @@ use Rattle.rbbi_cache.specs.Kept.{AreTrueRuns}
 use Rattle.rbbi_session.proofs.Reaching.{reached_start}
 use Rattle.rbbi_filter.specs.Pairs.{turn, turned}
 use Rattle.rbbi_filter.proofs.Turning.{turned_splice}
-use Rattle.rbbi_filter.proofs.tailored.TailoredWalk.replace.Goals as goal
+use Rattle.rbbi_filter.proofs.tailored.TurnedWalk.replace.Goals as goal
 
 pub edited-requires : goal.edited-requires
 edited-requires g c =

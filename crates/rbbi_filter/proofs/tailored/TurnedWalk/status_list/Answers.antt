@@ -3,7 +3,7 @@ use Rattle.rbbi_model.specs.Answers.{statuses_at}
 use Rattle.rbbi_session.proofs.Reaching.{statuses_are}
 use Rattle.rbbi_filter.specs.Pairs.{turned}
 use Rattle.rbbi_filter.specs.FilterSessions.{boundaries_of}
-use Rattle.rbbi_filter.proofs.tailored.TailoredWalk.status_list.Goals as goal
+use Rattle.rbbi_filter.proofs.tailored.TurnedWalk.status_list.Goals as goal
 
 pub returns : goal.returns
 returns g c =

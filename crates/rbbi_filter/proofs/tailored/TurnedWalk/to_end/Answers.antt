@@ -3,7 +3,7 @@ use Rattle.rbbi_session.proofs.Answering.{first_up_to, none_behind}
 use Rattle.rbbi_filter.specs.FilterSessions.{boundaries_of}
 use Rattle.rbbi_filter.proofs.Covering.{covers}
 use Rattle.rbbi_filter.proofs.Neighbours.{first_lies}
-use Rattle.rbbi_filter.proofs.tailored.TailoredWalk.to_end.Goals as goal
+use Rattle.rbbi_filter.proofs.tailored.TurnedWalk.to_end.Goals as goal
 
 pub returns-clause-end : goal.returns-clause-end
 returns-clause-end g c =

@@ -1,6 +1,6 @@
 use Rattle.rbbi_session.proofs.Reaching.{reached_start}
 use Rattle.rbbi_filter.specs.Pairs.{turned}
-use Rattle.rbbi_filter.proofs.tailored.TailoredWalk.to_start.Goals as goal
+use Rattle.rbbi_filter.proofs.tailored.TurnedWalk.to_start.Goals as goal
 
 pub invariant_of-self : goal.invariant_of-self
 invariant_of-self g c =

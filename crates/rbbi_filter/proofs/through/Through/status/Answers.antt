@@ -2,7 +2,7 @@ use Rattle.std.proofs.Common.{◌≡◌, ℕ, List, max, get_or, sym, ap, ◌∙
 use Rattle.std.proofs.lemmas.List.{take_all}
 use Rattle.rbbi_model.specs.Places.{largest}
 use Rattle.rbbi_session.proofs.Answering.{largest_more}
-use Rattle.rbbi_filter.proofs.walk.Walk.status.Goals as goal
+use Rattle.rbbi_filter.proofs.through.Through.status.Goals as goal
 
 pub loop-status-preserved : goal.loop-status-preserved
 loop-status-preserved g c =
