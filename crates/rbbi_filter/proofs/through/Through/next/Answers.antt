@@ -6,6 +6,6 @@ use Rattle.rbbi_filter.proofs.through.Through.next.Goals as goal
 
 pub returns-then-cursor-len-clause-answers : goal.returns-then-cursor-len-clause-answers
 returns-then-cursor-len-clause-answers g c =
-    subst (λ s. Answers s Next Done (g.W.Walk.session c.self.inside.walk)) c.self.view_is
+    subst (λ s. Answers s Next Done s) c.self.view_is
     (answers_no_next (g.W.Walk.session c.self.inside.walk)
     (omega (arith, c.if-cursor-len.true, c.current-cursor.ensures.at, c.len.ensures.exact, ap length c.text.ensures)))

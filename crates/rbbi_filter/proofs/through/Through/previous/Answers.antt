@@ -6,7 +6,7 @@ use Rattle.rbbi_filter.proofs.through.Through.previous.Goals as goal
 
 pub returns-then-cursor-eq0-clause-answers : goal.returns-then-cursor-eq0-clause-answers
 returns-then-cursor-eq0-clause-answers g c =
-    subst (λ s. Answers s Previous Done (g.W.Walk.session c.self.inside.walk)) c.self.view_is
+    subst (λ s. Answers s Previous Done s) c.self.view_is
     (answers_no_previous (g.W.Walk.session c.self.inside.walk) (omega (arith, c.if-cursor-eq0.true, c.current-cursor.ensures.at)))
 
 pub before-requires-clause-within : goal.before-requires-clause-within
