@@ -1,6 +1,7 @@
 //! From the words of the command line to what they ask for.
 
 use crate::colors::When;
+use crate::escapes::append_name;
 use crate::failure::{Failure, IS_REFUSED};
 use crate::only::Statuses;
 use crate::options::{Basis, Format, Kind, Property, Request, Task};
@@ -28,6 +29,17 @@ const AFTER_HELP: &str = "Examples:
 
 Exit status: 0 done; 1 the rule file has a fault; 2 wrong arguments, or a file that can't be
 read, used or written.";
+
+const BAD_PROPERTY: &[u8] = b"error: --prop wants NAME=FILE, as WB=WordBreakProperty.txt; NAME has \
+    letters, digits, spaces, _ and -, with a letter or digit among them\n";
+
+const NEEDS_RULES: &[u8] = b"error: --prop and --ignore-dictionary go with --rules or --check\n";
+
+const BAD_STATUS: &[u8] =
+    b"error: --only wants a status or a range of them, as 100, 100.. or 100..200\n";
+
+const REVERSED_RANGE: &[u8] =
+    b"error: --only wants the smaller status of a range first, as 100..200\n";
 
 /// What an option takes.
 #[derive(Clone, Copy)]
@@ -169,6 +181,22 @@ fn command<'a>(alloc: Global) -> Result<Command<'a>, AllocError> {
     Ok(command)
 }
 
+/// The matches of these words, or why they have none.
+fn parsed<'a>(alloc: Global, words: &'a Vec<String>) -> Result<ArgMatches<'a>, Error> {
+    command(alloc)?.try_get_matches_from(words.as_slice())
+}
+
+/// The words with hidden characters as escapes.
+fn escaped(alloc: Global, words: &Vec<String>) -> Result<Vec<String>, AllocError> {
+    let mut all = Vec::new(alloc);
+    for word in words {
+        let mut bytes = Vec::new(alloc);
+        append_name(word.as_str(), &mut bytes)?;
+        all.push(String::from_utf8_lossy(alloc, &bytes)?)?;
+    }
+    Ok(all)
+}
+
 /// The failure that the error of a parse is.
 fn failure_of(alloc: Global, error: &Error) -> Result<Failure, AllocError> {
     if error.kind() == ErrorKind::OutOfMemory {
@@ -180,6 +208,17 @@ fn failure_of(alloc: Global, error: &Error) -> Result<Failure, AllocError> {
         Ok(Failure::Told(IS_REFUSED, bytes))
     } else {
         Ok(Failure::Shown(bytes))
+    }
+}
+
+/// The failure that words have this error. Its message shows hidden characters of the words as
+/// escapes: it is that of the words with escapes in their place, which have the same error, since
+/// no name or value of an option has a hidden character.
+fn refused(alloc: Global, words: &Vec<String>, error: &Error) -> Result<Failure, AllocError> {
+    let escaped = escaped(alloc, words)?;
+    match parsed(alloc, &escaped) {
+        Ok(_) => failure_of(alloc, error),
+        Err(error) => failure_of(alloc, &error),
     }
 }
 
@@ -244,6 +283,15 @@ fn task_of<'a>(matches: &ArgMatches<'a>) -> (Task<'a>, Basis<'a>) {
     }
 }
 
+/// Whether rules can ask for a property by this name: letters, digits, spaces, `_` and `-` of
+/// ASCII, with a letter or digit among them.
+fn is_property_name(name: &str) -> bool {
+    let bytes = name.as_bytes();
+    bytes.iter().any(|byte| byte.is_ascii_alphanumeric())
+        && bytes.iter().all(|byte| byte.is_ascii_alphanumeric()
+            || matches!(*byte, b' ' | b'_' | b'-'))
+}
+
 /// The property files, each parted from its name at the first `=`.
 fn properties_of<'a>(
     alloc: Global,
@@ -252,13 +300,10 @@ fn properties_of<'a>(
     let mut properties = Vec::new(alloc);
     for given in matches.get_strs("prop").unwrap_or(&[]) {
         match given.split_once('=') {
-            Some((name, file)) => properties.push(Property { name, file })?,
-            None => {
-                return Err(bad_value(
-                    alloc,
-                    b"error: --prop wants NAME=FILE, as WB=WordBreakProperty.txt\n",
-                ));
+            Some((name, file)) if is_property_name(name) && !file.is_empty() => {
+                properties.push(Property { name, file })?
             }
+            _ => return Err(bad_value(alloc, BAD_PROPERTY)),
         }
     }
     Ok(properties)
@@ -269,11 +314,9 @@ fn only_of(alloc: Global, matches: &ArgMatches<'_>) -> Result<Statuses, Failure>
         return Ok(Statuses::ALL);
     };
     match Statuses::of(text) {
-        Some(statuses) => Ok(statuses),
-        None => Err(bad_value(
-            alloc,
-            b"error: --only wants a status or a range of them, as 100, 100.. or 100..200\n",
-        )),
+        Some(statuses) if statuses.least <= statuses.greatest => Ok(statuses),
+        Some(_) => Err(bad_value(alloc, REVERSED_RANGE)),
+        None => Err(bad_value(alloc, BAD_STATUS)),
     }
 }
 
@@ -282,10 +325,9 @@ pub(crate) fn request_of<'a>(
     alloc: Global,
     words: &'a Vec<String>,
 ) -> Result<Request<'a>, Failure> {
-    let command = command(alloc)?;
-    let matches = match command.try_get_matches_from(words.as_slice()) {
+    let matches = match parsed(alloc, words) {
         Ok(matches) => matches,
-        Err(error) => return Err(failure_of(alloc, &error)?),
+        Err(error) => return Err(refused(alloc, words, &error)?),
     };
     let (task, basis) = task_of(&matches);
     let properties = properties_of(alloc, &matches)?;
@@ -293,10 +335,7 @@ pub(crate) fn request_of<'a>(
     if let Basis::BuiltIn(_) = basis
         && (ignore_dictionary || !properties.is_empty())
     {
-        return Err(bad_value(
-            alloc,
-            b"error: --prop and --ignore-dictionary go with --rules or --check\n",
-        ));
+        return Err(bad_value(alloc, NEEDS_RULES));
     }
     Ok(Request {
         task,

@@ -103,6 +103,13 @@ pub(crate) const ROWS: &[Row] = &[
          Make it anew by rbbi compile RULES TABLE.\n",
     ),
     (
+        "--only~200..100",
+        b"",
+        2,
+        "",
+        "error: --only wants the smaller status of a range first, as 100..200\n",
+    ),
+    (
         "--only~7..x",
         b"",
         2,
@@ -114,7 +121,40 @@ pub(crate) const ROWS: &[Row] = &[
         b"",
         2,
         "",
-        "error: --prop wants NAME=FILE, as WB=WordBreakProperty.txt\n",
+        "error: --prop wants NAME=FILE, as WB=WordBreakProperty.txt; NAME has letters, digits, \
+         spaces, _ and -, with a letter or digit among them\n",
+    ),
+    (
+        "--rules~a~--prop~=rows",
+        b"",
+        2,
+        "",
+        "error: --prop wants NAME=FILE, as WB=WordBreakProperty.txt; NAME has letters, digits, \
+         spaces, _ and -, with a letter or digit among them\n",
+    ),
+    (
+        "--rules~a~--prop=-_ =rows",
+        b"",
+        2,
+        "",
+        "error: --prop wants NAME=FILE, as WB=WordBreakProperty.txt; NAME has letters, digits, \
+         spaces, _ and -, with a letter or digit among them\n",
+    ),
+    (
+        "--check~a~--prop~R\u{E9}=rows",
+        b"",
+        2,
+        "",
+        "error: --prop wants NAME=FILE, as WB=WordBreakProperty.txt; NAME has letters, digits, \
+         spaces, _ and -, with a letter or digit among them\n",
+    ),
+    (
+        "--check~a~--prop~R=",
+        b"",
+        2,
+        "",
+        "error: --prop wants NAME=FILE, as WB=WordBreakProperty.txt; NAME has letters, digits, \
+         spaces, _ and -, with a letter or digit among them\n",
     ),
     (
         "--by~letter",
@@ -124,6 +164,34 @@ pub(crate) const ROWS: &[Row] = &[
         "error: invalid value 'letter' for '--by <KIND>'\n  \
          [possible values: grapheme, word, sentence, line]\n\n\
          For more information, try '--help'.\n",
+    ),
+    // Words stand in a message with escapes for what would do something to a terminal.
+    (
+        "--by~\u{1B}[2J\u{202E}\n",
+        b"",
+        2,
+        "",
+        "error: invalid value '\\u{001b}[2J\\u{202e}\\n' for '--by <KIND>'\n  \
+         [possible values: grapheme, word, sentence, line]\n\n\
+         For more information, try '--help'.\n",
+    ),
+    (
+        "--x\u{7F}\ny",
+        b"",
+        2,
+        "",
+        "error: unexpected argument '--x\\u{007f}\\ny' found\n\n  \
+         tip: to pass '--x\\u{007f}\\ny' as a value, use '-- --x\\u{007f}\\ny'\n\n\
+         Usage: segment [OPTIONS] [FILE]\n\n\
+         For more information, try '--help'.\n",
+    ),
+    (
+        "\u{9B}31m",
+        b"",
+        2,
+        "",
+        "\\u{009b}31m: error: Unreadable: the file can't be read\n\
+         Look whether it is there, and whether you may read it.\n",
     ),
     (
         "--check~a~--by~word",
