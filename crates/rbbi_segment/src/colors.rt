@@ -8,7 +8,7 @@ use std::alloc::AllocError;
 /// When output has colours.
 #[derive(Clone, Copy, PartialEq, Eq)]
 pub(crate) enum When {
-    /// Where it goes to a terminal, and `NO_COLOR` isn't set.
+    /// Where it goes to a terminal, and the surroundings don't ask for none.
     Auto,
     Always,
     Never,
@@ -21,7 +21,8 @@ pub struct Surroundings {
     pub output_is_terminal: bool,
     /// Whether the standard error goes to a terminal.
     pub errors_are_on_terminal: bool,
-    /// Whether the variable `NO_COLOR` is set, and not empty.
+    /// Whether no colours are asked for: the variable `NO_COLOR` is set, and not empty, or `TERM`
+    /// is `dumb`.
     pub no_color: bool,
 }
 

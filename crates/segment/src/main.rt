@@ -16,16 +16,21 @@ use std::marker::Brand;
 use std::process::ExitCode;
 use std::sync::ledger::{Blank, Ledger};
 
+/// Whether the surroundings ask for no colours, by `NO_COLOR`, or by a terminal that has none.
+fn asks_for_no_color(rt: &HostRuntime) -> bool {
+    match (env::var(rt, "NO_COLOR"), env::var(rt, "TERM")) {
+        (Ok(value), _) if !value.as_str().is_empty() => true,
+        (_, Ok(terminal)) => terminal.as_str() == "dumb",
+        _ => false,
+    }
+}
+
 /// What the program is run in.
 fn surroundings(rt: &HostRuntime) -> Surroundings {
-    let no_color = match env::var(rt, "NO_COLOR") {
-        Ok(value) => !value.as_str().is_empty(),
-        Err(_) => false,
-    };
     Surroundings {
         output_is_terminal: rt.stdout().is_terminal(),
         errors_are_on_terminal: rt.stderr().is_terminal(),
-        no_color,
+        no_color: asks_for_no_color(rt),
     }
 }
 
