@@ -4,7 +4,7 @@ import os
 import subprocess
 
 import inputs
-from harness import MIB, Line, both_verdicts, rate_text, size_text, time_text, verdict
+from harness import MIB, NOT_BUILT, Line, both_verdicts, rate_text, size_text, time_text, verdict
 from measure import Result, held, measure
 
 ONE_MILLION, TWELVE_MILLION = inputs.SIZES.values()
@@ -272,6 +272,24 @@ def units(bench):
         yield from by_bytes(bench, edits)
 
 
+def segment_units(bench):
+    """`segment` by bytes of UTF-8 and by numbers of 16 bits over `segment` by characters."""
+    program = os.path.join(bench.top, 'crates', 'segment', 'out', 'segment')
+    # The launcher builds the program.
+    launcher = [os.path.join(bench.top, 'bin', 'segment'), '--version']
+    built = subprocess.run(launcher, stdout=subprocess.DEVNULL, check=False).returncode == 0
+    for kind in ('prose', 'scripts'):
+        for unit in ('utf8', 'utf16'):
+            line = Line(f'`segment --units {unit}` over `segment`, {kind}, '
+                        f'{bench.sizes[-1] // 1_000_000} M', '' if built else NOT_BUILT, target='1.3 times')
+            if built:
+                text = inputs.make_text(bench.folder, kind, bench.sizes[-1])
+                counted = bench.best([program, '--units', unit, text]).seconds
+                alone = bench.best([program, text]).seconds
+                line.time, line.verdict = f'{counted / alone:.2f} times', verdict(counted / alone, 1.3)
+            yield line
+
+
 def by_bytes(bench, edits):
     """What a question costs by bytes of UTF-8 and by characters, with an edit before it where `edits`
     says so."""
@@ -533,7 +551,10 @@ def scanning(bench):
 
 
 GROUPS = [start, texts, printing, compiling, front, limits, tables, loop, sessions, questions, units,
-          filters, same, tally, nexts, tests, demo, parts]
+          segment_units, filters, same, tally, nexts, tests, demo, parts]
+
+# The groups that don't run the program that is measured.
+WITHOUT_PROGRAM = [segment_units, parts]
 
 # The groups that want the program of single calls.
 OF_PARTS = [loop, nexts, parts]
