@@ -1,8 +1,8 @@
 -- The session that a desk keeps between two calls is the one that was paused.
-use Rattle.std.proofs.Common.{◌≡◌, ℕ, List, sym, ap, subst, Result, Ok, Err}
+use Rattle.std.proofs.Common.{◌≡◌, ℕ, List, sym, ap, ◌∙◌, subst, Result, Ok, Err}
 use Rattle.rbbi_model.specs.declared.unit.Unit.{Unit as TextUnit}
 use Rattle.rbbi_model.specs.Tables.{Table}
-use Rattle.rbbi_session.specs.UnitSessions.{UnitSession}
+use Rattle.rbbi_session.specs.UnitSessions.{UnitSession, UnitMovesTo}
 use Rattle.rbbi_session.specs.UnitEdits.{UnitEditAnswers}
 use Rattle.rbbi_session.specs.declared.unit_error.UnitEditErr.{UnitEditErr}
 use Rattle.rbbi_session.specs.declared.unit_error.UnitEditErr.TheVariants.{Outside, Inside, TooLong, Memory}
@@ -28,3 +28,13 @@ pub resumed-as : {table now : Table} {session : UnitSession} (unit : TextUnit) (
     session ≡ record { unit = unit; asked = resumed now paused }
     → session ≡ record { unit = unit; asked = resumed table paused }
 resumed-as {session = session} unit paused same is = subst (λ (t : Table). session ≡ record { unit = unit; asked = resumed t paused }) same is
+
+-- what holds from the session that goes on to the one that is paused then holds from the desk to the one that comes of it
+pub desk-to-desk : (P : UnitSession → UnitSession → Type 0) (unit : TextUnit) {table now : Table} {self was new : UnitSession} {cursor : ℕ}
+    (paused left : Paused) → now ≡ table → was ≡ record { unit = unit; asked = resumed now paused } → record { unit = unit; asked = resumed table paused } ≡ self
+    → UnitMovesTo was cursor new → IsPaused new.asked left → P was new → P self (record { unit = unit; asked = resumed table left })
+desk-to-desk P unit {table = table} {self = self} {was = was} {new = new} paused left same goes view moved kept holds =
+    let on : was ≡ record { unit = unit; asked = resumed table paused } = resumed-as unit paused same goes in
+    let is = resumed-session unit table left new (moved.unit_is ∙ ap (λ (s : UnitSession). s.unit) on)
+    (moved.table_is ∙ ap (λ (s : UnitSession). s.asked.table) on) kept in
+    subst (P self) (sym is) (subst (λ s. P s new) (on ∙ view) holds)

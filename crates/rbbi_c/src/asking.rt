@@ -3,6 +3,7 @@ ghost use Rattle.rbbi_c.specs.Asking.{question_of, IsAnswered};
 ghost use Rattle.std.specs.Prelude.{◌≡◌};
 ghost use Rattle.rbbi_c.specs.Asking.{told_of};
 ghost use Rattle.rbbi_session.specs.Sessions.{place_reply};
+ghost use Rattle.rbbi_session.specs.UnitSessions.{UnitAsks};
 
 use rbbi_session::UnitSession;
 use rbbi_text::{Pieces, Steps};
@@ -45,7 +46,8 @@ pub(crate) fn answered<L: Ledger>(
     asked: Ask,
     steps: &mut Steps<L>,
 ) -> Told
-    ensures { IsAnswered session.old (question_of asked) result session.new }
+    ensures answered { IsAnswered session.old (question_of asked) result session.new }
+    ensures reads { UnitAsks session.old (question_of asked) session.new steps.old steps.new }
 {
     match asked {
         Ask::First => Told::Number(session.first()),

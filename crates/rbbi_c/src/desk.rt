@@ -1,7 +1,7 @@
 //! A session that owns its table.
 ghost use Rattle.std.specs.Prelude.{◌≡◌, length, IfOk, chars};
 ghost use Rattle.rbbi_c.specs.Asking.{question_of, IsAnswered};
-ghost use Rattle.rbbi_session.specs.UnitSessions.{IsOpenedBy, offset_in};
+ghost use Rattle.rbbi_session.specs.UnitSessions.{IsOpenedBy, UnitAsks, offset_in};
 ghost use Rattle.rbbi_session.specs.UnitEdits.{UnitEditAnswers};
 ghost use Rattle.rbbi_c.specs.Reading.{AreListed};
 
@@ -55,7 +55,8 @@ impl Desk {
 
     /// What a question answers, and the session after it.
     pub(crate) fn ask<L: Ledger>(self, asked: Ask, steps: &mut Steps<L>) -> (Desk, Told)
-        ensures { IsAnswered self (question_of asked) result.1 result.0 }
+        ensures answered { IsAnswered self (question_of asked) result.1 result.0 }
+        ensures reads { UnitAsks self (question_of asked) result.0 steps.old steps.new }
     {
         let Desk {
             table,
