@@ -1,15 +1,16 @@
 -- The line of a segment.
-use Rattle.std.specs.Prelude.{◌≡◌, ℕ, List, [], ◌∷◌, ◌++◌, Bool, Option, if◌then◌else◌, ◌&&◌, nat_le, slice_range, codes}
+use Rattle.std.specs.Prelude.{◌≡◌, ℕ, List, [], ◌∷◌, ◌++◌, Bool, true, false, Option, Some, None, if◌then◌else◌, ◌&&◌, nat_le, slice_range, codes}
 use Rattle.std.specs.List.{flat_map}
 use Rattle.std.specs.Fmt.{decimal}
-use Rattle.rbbi_model.specs.Units.{offset_of}
 use Rattle.rbbi_io.specs.Sinks.{IsBuffered}
 use Rattle.rbbi_segment.specs.declared.colors.Colors.{Colors}
 use Rattle.rbbi_segment.specs.declared.colors.Color.{Color}
 use Rattle.rbbi_segment.specs.declared.colors.Color.TheVariants.{Faint, Mark, Fault}
 use Rattle.rbbi_segment.specs.declared.escapes.Within.{Within}
-use Rattle.rbbi_segment.specs.declared.escapes.Within.TheVariants.{Quotes, Json}
+use Rattle.rbbi_segment.specs.declared.escapes.Within.TheVariants.{Quotes, Json as InJson}
 use Rattle.rbbi_segment.specs.declared.only.Statuses.{Statuses}
+use Rattle.rbbi_segment.specs.declared.options.Format.{Format}
+use Rattle.rbbi_segment.specs.declared.options.Format.TheVariants.{Text, Json, Marked, Count}
 use Rattle.rbbi_segment.specs.declared.quoted.Style.{Style}
 use Rattle.rbbi_segment.specs.declared.quoted.Quoted.{Quoted}
 use Rattle.rbbi_segment.specs.declared.segments.Segment.{Segment}
@@ -28,24 +29,25 @@ color_begin colors color = if colors.are_on then code_of color else []
 abbrev pub color_end : Colors → List ℕ
 color_end colors = if colors.are_on then 27 ∷ codes "[0m" else []
 
--- three numbers parted by spaces
-abbrev pub plain_head : ℕ → ℕ → ℕ → List ℕ
-plain_head start end status = decimal start ++ (32 ∷ decimal end) ++ (32 ∷ decimal status)
+-- where the segment starts and ends in the unit, and its status, parted by spaces
+abbrev pub plain_head : Segment → List ℕ
+plain_head segment = decimal segment.start_offset ++ (32 ∷ decimal segment.end_offset) ++ (32 ∷ decimal segment.status)
 
 -- an object of JSON up to its text
-abbrev pub json_head : ℕ → ℕ → ℕ → List ℕ
-json_head start end status =
-    codes "{\"start\":" ++ decimal start ++ codes ",\"end\":" ++ decimal end ++ codes ",\"status\":" ++ decimal status ++ codes ",\"text\":"
+abbrev pub json_head : Segment → List ℕ
+json_head segment =
+    codes "{\"start\":" ++ decimal segment.start_offset ++ codes ",\"end\":" ++ decimal segment.end_offset
+    ++ codes ",\"status\":" ++ decimal segment.status ++ codes ",\"text\":"
 
 -- what stands before the quotes
-abbrev pub head : Style → ℕ → ℕ → ℕ → List ℕ
-head style start end status =
-    if style.is_json then json_head start end status
-    else color_begin style.colors Faint ++ plain_head start end status ++ color_end style.colors ++ 32 ∷ []
+abbrev pub head : Style → Segment → List ℕ
+head style segment =
+    if style.is_json then json_head segment
+    else color_begin style.colors Faint ++ plain_head segment ++ color_end style.colors ++ 32 ∷ []
 
 -- how characters stand in the quotes
 abbrev pub within : Style → Within
-within style = if style.is_json then Json else Quotes
+within style = if style.is_json then InJson else Quotes
 
 -- characters in quotes
 abbrev pub quoted : Style → List ℕ → List ℕ
@@ -57,9 +59,7 @@ tail style = if style.is_json then 125 ∷ 10 ∷ [] else 10 ∷ []
 
 -- the line of a segment of the text: where it starts and ends in the unit, its status, and its characters in quotes
 abbrev pub line : Style → List ℕ → Segment → List ℕ
-line style x segment =
-    head style (offset_of style.unit x segment.start) (offset_of style.unit x segment.end) segment.status
-    ++ quoted style (slice_range x segment.start segment.end) ++ tail style
+line style x segment = head style segment ++ quoted style (slice_range x segment.start segment.end) ++ tail style
 
 -- the status is asked for
 abbrev pub has : Statuses → ℕ → Bool
@@ -77,3 +77,10 @@ pub record TakesLine (old : Quoted) (before : Option (List ℕ)) (x : List ℕ) 
 -- the lines of all segments whose status is asked for
 abbrev pub lines : Style → List ℕ → List Segment → List ℕ
 lines style x segments = flat_map (line_if_wanted style x) segments
+
+-- the lines of all segments in a format that has lines
+abbrev pub lines_in : Format → Statuses → Colors → List ℕ → List Segment → Option (List ℕ)
+lines_in Text only colors x segments = Some (lines (record { is_json = false; only = only; colors = colors }) x segments)
+lines_in Json only colors x segments = Some (lines (record { is_json = true; only = only; colors = colors }) x segments)
+lines_in Marked only colors x segments = None
+lines_in Count only colors x segments = None

@@ -1,28 +1,36 @@
 -- The segments of a text by a table, and what takes them one after the other.
 use Rattle.std.specs.Prelude.{ℕ, List, [], ◌∷◌, ◌++◌, Option}
+use Rattle.rbbi_model.specs.declared.unit.Unit.{Unit as TextUnit}
+use Rattle.rbbi_model.specs.Units.{offset_of}
 use Rattle.rbbi_model.specs.Places.{largest}
 use Rattle.rbbi_model.specs.Boundaries.{Boundary}
 use Rattle.rbbi_model.specs.Tables.{Table}
 use Rattle.rbbi_model.specs.Searches.{table_boundaries}
 use Rattle.rbbi_segment.specs.declared.segments.Segment.{Segment}
 
--- from a place to a boundary, with the largest status there
-abbrev pub segment_to : ℕ → Boundary → Segment
-segment_to start boundary = record { start = start; end = boundary.at; status = largest boundary.statuses }
+-- from a place of the text to a boundary, with their offsets in the unit and the largest status there
+abbrev pub segment_to : TextUnit → List ℕ → ℕ → Boundary → Segment
+segment_to unit x start boundary = record {
+  start = start;
+  end = boundary.at;
+  start_offset = offset_of unit x start;
+  end_offset = offset_of unit x boundary.at;
+  status = largest boundary.statuses;
+}
 
 -- the segments from a place to the boundaries that follow it
-abbrev pub segments_from : ℕ → List Boundary → List Segment
-segments_from start [] = []
-segments_from start (next ∷ others) = segment_to start next ∷ segments_from next.at others
+abbrev pub segments_from : TextUnit → List ℕ → ℕ → List Boundary → List Segment
+segments_from unit x start [] = []
+segments_from unit x start (next ∷ others) = segment_to unit x start next ∷ segments_from unit x next.at others
 
 -- the segments between boundaries that follow one another
-abbrev pub segments_between : List Boundary → List Segment
-segments_between [] = []
-segments_between (first ∷ others) = segments_from first.at others
+abbrev pub segments_between : TextUnit → List ℕ → List Boundary → List Segment
+segments_between unit x [] = []
+segments_between unit x (first ∷ others) = segments_from unit x first.at others
 
--- the segments of the text by the table
-abbrev pub segments : Table → List ℕ → List Segment
-segments table x = segments_between (table_boundaries table x)
+-- the segments of the text by the table, with offsets in the unit
+abbrev pub segments : TextUnit → Table → List ℕ → List Segment
+segments unit table x = segments_between unit x (table_boundaries table x)
 
 -- A receiver took these segments of the text, one after the other and no others. `takes` says what taking one does to it and to what the
 -- sink has taken.

@@ -6,7 +6,7 @@ use crate::escapes::append_plain;
 use crate::only::Statuses;
 use crate::segments::{Receive, Segment};
 use rbbi_io::{Sink, WriteErr, put_all, put_when_full};
-use rbbi_text::{Chars, Steps, UnitText, append};
+use rbbi_text::{Chars, PlainText, Steps, append};
 use std::alloc::AllocError;
 use std::sync::ledger::Ledger;
 
@@ -30,9 +30,9 @@ impl Marked {
 }
 
 impl Receive for Marked {
-    fn take<T: UnitText, K: Sink, L: Ledger>(
+    fn take<K: Sink, L: Ledger>(
         &mut self,
-        text: &T,
+        text: &PlainText,
         segment: Segment,
         out: &mut K,
         steps: &mut Steps<L>,

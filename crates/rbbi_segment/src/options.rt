@@ -25,7 +25,7 @@ pub(crate) enum Basis<'a> {
 }
 
 /// How segments are put.
-#[derive(Clone, Copy, PartialEq, Eq)]
+#[derive(Clone, Copy)]
 pub(crate) enum Format {
     /// A line for each: start, end, status, and the segment in quotes.
     Text,

@@ -1,7 +1,7 @@
 //! A run of the program.
-ghost use Rattle.std.specs.Prelude.{OnOk};
+ghost use Rattle.std.specs.Prelude.{IfSome, OnOk};
 ghost use Rattle.rbbi_io.specs.Sinks.{Takes};
-ghost use Rattle.rbbi_segment.specs.Lines.{lines};
+ghost use Rattle.rbbi_segment.specs.Lines.{lines, lines_in};
 ghost use Rattle.rbbi_segment.specs.Segments.{segments};
 
 use crate::arguments::request_of;
@@ -16,27 +16,29 @@ use crate::segments::hand_over;
 use crate::tally::Tally;
 use rbbi_io::{Files, Sink, WriteErr, put_all};
 use rbbi_table::Table;
-use rbbi_text::{PlainText, Steps, UnitText};
+use rbbi_text::{PlainText, Steps, Unit};
 use std::alloc::Global;
 use std::collections::BTreeMap;
 use std::io::Read;
 use std::sync::ledger::Ledger;
 
-/// Puts a line for each segment of a text by a table whose status is asked for.
-fn put_lines<T: UnitText, K: Sink, L: Ledger>(
+/// Puts a line for each segment of a text by a table whose status is asked for, with offsets in the
+/// unit.
+fn put_lines<K: Sink, L: Ledger>(
     alloc: Global,
     style: Style,
     table: &Table,
-    text: &T,
+    text: &PlainText,
+    unit: Unit,
     out: &mut K,
     steps: &mut Steps<L>,
 ) -> Result<(), WriteErr>
-    ensures { OnOk result (Takes (K.taken out.old) (K.taken out.new) (lines style
-        (T.characters text.now) (segments table.now (T.characters text.now)))) }
+    ensures { OnOk result (Takes (K.taken out.old) (K.taken out.new) (lines style text.now
+        (segments unit table.now text.now))) }
 {
     let made = Vec::new(alloc);
     let mut receiver = Quoted { style, made };
-    hand_over(alloc, table, text, &mut receiver, out, steps)
+    hand_over(alloc, table, text, unit, &mut receiver, out, steps)
 }
 
 /// Puts the segments of a text by a table, in the format that is asked for.
@@ -48,17 +50,26 @@ fn put_segments<K: Sink, L: Ledger>(
     colors: Colors,
     out: &mut K,
     steps: &mut Steps<L>,
-) -> Result<(), WriteErr> {
+) -> Result<(), WriteErr>
+    ensures { IfSome (lines_in request.now.format request.now.only colors text.now
+        (segments request.now.unit table.now text.now))
+        (λ bytes. OnOk result (Takes (K.taken out.old) (K.taken out.new) bytes)) }
+{
+    let unit = request.unit;
     let only = request.only;
+    let style = Style {
+        is_json: false,
+        only,
+        colors,
+    };
     match request.format {
-        Format::Text | Format::Json => {
+        Format::Text => put_lines(alloc, style, table, text, unit, out, steps),
+        Format::Json => {
             let style = Style {
-                is_json: request.format == Format::Json,
-                unit: request.unit,
-                only,
-                colors,
+                is_json: true,
+                ..style
             };
-            put_lines(alloc, style, table, text, out, steps)
+            put_lines(alloc, style, table, text, unit, out, steps)
         }
         Format::Marked => {
             let mut receiver = Marked {
@@ -67,13 +78,13 @@ fn put_segments<K: Sink, L: Ledger>(
                 was_asked_for: false,
                 made: Vec::new(alloc),
             };
-            hand_over(alloc, table, text, &mut receiver, out, steps)
+            hand_over(alloc, table, text, Unit::Chars, &mut receiver, out, steps)
         }
         Format::Count => {
             let counts = BTreeMap::new(alloc);
             let made = Vec::new(alloc);
             let mut receiver = Tally { only, counts, made };
-            hand_over(alloc, table, text, &mut receiver, out, steps)
+            hand_over(alloc, table, text, Unit::Chars, &mut receiver, out, steps)
         }
     }
 }

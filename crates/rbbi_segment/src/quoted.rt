@@ -8,7 +8,7 @@ use crate::escapes::{Within, append_character};
 use crate::only::Statuses;
 use crate::segments::{Receive, Segment};
 use rbbi_io::{Sink, WriteErr, put_all, put_when_full};
-use rbbi_text::{Chars, Steps, Unit, UnitText, append, append_number};
+use rbbi_text::{Chars, PlainText, Steps, append, append_number};
 use std::alloc::AllocError;
 use std::sync::ledger::Ledger;
 
@@ -17,7 +17,6 @@ use std::sync::ledger::Ledger;
 pub(crate) struct Style {
     /// Whether a line is an object of JSON.
     pub(crate) is_json: bool,
-    pub(crate) unit: Unit,
     pub(crate) only: Statuses,
     pub(crate) colors: Colors,
 }
@@ -30,46 +29,39 @@ pub(crate) struct Quoted {
     pub(crate) made: Vec<u8>,
 }
 
-/// Appends three numbers, parted by spaces.
-fn append_plain_head(start: u32, end: u32, status: u32, out: &mut Vec<u8>) -> Result<(), AllocError>
-    ensures { OnOk result (out.new.items
-        ≡ out.old.items ++ spec.plain_head start end status) }
+/// Appends where a segment starts and ends in the unit, and its status, parted by spaces.
+fn append_plain_head(segment: Segment, out: &mut Vec<u8>) -> Result<(), AllocError>
+    ensures { OnOk result (out.new.items ≡ out.old.items ++ spec.plain_head segment) }
 {
-    append_number(start, out)?;
+    append_number(segment.start_offset, out)?;
     append(b" ", out)?;
-    append_number(end, out)?;
+    append_number(segment.end_offset, out)?;
     append(b" ", out)?;
-    append_number(status, out)
+    append_number(segment.status, out)
 }
 
 /// Appends an object of JSON up to its text.
-fn append_json_head(start: u32, end: u32, status: u32, out: &mut Vec<u8>) -> Result<(), AllocError>
-    ensures { OnOk result (out.new.items ≡ out.old.items ++ spec.json_head start end status) }
+fn append_json_head(segment: Segment, out: &mut Vec<u8>) -> Result<(), AllocError>
+    ensures { OnOk result (out.new.items ≡ out.old.items ++ spec.json_head segment) }
 {
     append(b"{\"start\":", out)?;
-    append_number(start, out)?;
+    append_number(segment.start_offset, out)?;
     append(b",\"end\":", out)?;
-    append_number(end, out)?;
+    append_number(segment.end_offset, out)?;
     append(b",\"status\":", out)?;
-    append_number(status, out)?;
+    append_number(segment.status, out)?;
     append(b",\"text\":", out)
 }
 
 /// Appends what stands before the quotes.
-fn append_head(
-    style: Style,
-    start: u32,
-    end: u32,
-    status: u32,
-    out: &mut Vec<u8>,
-) -> Result<(), AllocError>
-    ensures { OnOk result (out.new.items ≡ out.old.items ++ spec.head style start end status) }
+fn append_head(style: Style, segment: Segment, out: &mut Vec<u8>) -> Result<(), AllocError>
+    ensures { OnOk result (out.new.items ≡ out.old.items ++ spec.head style segment) }
 {
     if style.is_json {
-        return append_json_head(start, end, status, out);
+        return append_json_head(segment, out);
     }
     style.colors.begin(Color::Faint, out)?;
-    append_plain_head(start, end, status, out)?;
+    append_plain_head(segment, out)?;
     style.colors.end(out)?;
     append(b" ", out)
 }
@@ -97,19 +89,18 @@ fn within(style: Style) -> Within
 }
 
 /// Appends the characters of a segment in quotes, and puts what is too much to wait.
-fn put_quoted<T: Chars, K: Sink, L: Ledger>(
+fn put_quoted<K: Sink, L: Ledger>(
     style: Style,
-    text: &T,
+    text: &PlainText,
     segment: Segment,
     out: &mut K,
     made: &mut Vec<u8>,
     steps: &mut Steps<L>,
 ) -> Result<(), WriteErr>
     requires some { segment.start < segment.end }
-    requires within { segment.end ≤ length (T.characters text.now) }
+    requires within { segment.end ≤ length text.now }
     ensures { OnOk result (IsBuffered (K.taken out.old) (K.taken out.new) (made.old.items
-        ++ spec.quoted style (slice_range (T.characters text.now) segment.start segment.end))
-        made.new.items) }
+        ++ spec.quoted style (slice_range text.now segment.start segment.end)) made.new.items) }
 {
     let within = within(style);
     append(b"\"", made)?;
@@ -122,22 +113,20 @@ fn put_quoted<T: Chars, K: Sink, L: Ledger>(
 }
 
 /// Appends the line of a segment, and puts what is too much to wait.
-fn put_line<T: UnitText, K: Sink, L: Ledger>(
+fn put_line<K: Sink, L: Ledger>(
     style: Style,
-    text: &T,
+    text: &PlainText,
     segment: Segment,
     out: &mut K,
     made: &mut Vec<u8>,
     steps: &mut Steps<L>,
 ) -> Result<(), WriteErr>
     requires some { segment.start < segment.end }
-    requires within { segment.end ≤ length (T.characters text.now) }
+    requires within { segment.end ≤ length text.now }
     ensures { OnOk result (IsBuffered (K.taken out.old) (K.taken out.new) (made.old.items
-        ++ spec.line style (T.characters text.now) segment) made.new.items) }
+        ++ spec.line style text.now segment) made.new.items) }
 {
-    let start = text.offset(style.unit, segment.start);
-    let end = text.offset(style.unit, segment.end);
-    append_head(style, start, end, segment.status, made)?;
+    append_head(style, segment, made)?;
     put_quoted(style, text, segment, out, made, steps)?;
     append_tail(style, made)?;
     put_when_full(out, made)
@@ -151,9 +140,9 @@ impl Receive for Quoted {
 
     ghost ends = { λ last before now. Takes before now last.made.items };
 
-    fn take<T: UnitText, K: Sink, L: Ledger>(
+    fn take<K: Sink, L: Ledger>(
         &mut self,
-        text: &T,
+        text: &PlainText,
         segment: Segment,
         out: &mut K,
         steps: &mut Steps<L>,

@@ -3,7 +3,7 @@
 use crate::only::Statuses;
 use crate::segments::{Receive, Segment};
 use rbbi_io::{Sink, WriteErr, put_all};
-use rbbi_text::{Steps, UnitText, append, append_number};
+use rbbi_text::{PlainText, Steps, append, append_number};
 use std::alloc::AllocError;
 use std::collections::BTreeMap;
 use std::sync::ledger::Ledger;
@@ -35,9 +35,9 @@ impl Tally {
 }
 
 impl Receive for Tally {
-    fn take<T: UnitText, K: Sink, L: Ledger>(
+    fn take<K: Sink, L: Ledger>(
         &mut self,
-        _text: &T,
+        _text: &PlainText,
         segment: Segment,
         _out: &mut K,
         _steps: &mut Steps<L>,

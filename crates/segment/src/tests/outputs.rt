@@ -60,7 +60,7 @@ pub(crate) const ROWS: &[Row] = &[
         "",
     ),
     (
-        "--rules~p~--prop~Q=q~-",
+        "--rules~p~--prop~ q-=q~-",
         b"bbb",
         0,
         "0 2 4 \"bb\"\n2 3 0 \"b\"\n",
@@ -86,6 +86,14 @@ pub(crate) const ROWS: &[Row] = &[
         b"",
         0,
         "0 1 0 \"x\"\n1 3 0 \"\u{1F600}\"\n3 4 0 \"\u{E9}\"\n4 5 0 \"\\n\"\n",
+        "",
+    ),
+    (
+        "-u~utf8~-fjson~--only~200~-",
+        b"\xC3\xA9t\xC3\xA9 \xF0\x9F\x98\x80 a",
+        0,
+        "{\"start\":0,\"end\":5,\"status\":200,\"text\":\"\u{E9}t\u{E9}\"}\n\
+         {\"start\":11,\"end\":12,\"status\":200,\"text\":\"a\"}\n",
         "",
     ),
     // What would do something to a terminal.

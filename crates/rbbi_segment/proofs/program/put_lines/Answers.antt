@@ -6,6 +6,6 @@ use Rattle.rbbi_segment.proofs.program.put_lines.Goals as goal
 pub returns : goal.returns
 returns g c =
     on_ok c.hand_over.result
-    (λ taken. all_put (g.T.Chars.characters c.args.text.now) _ (g.K.Sink.taken c.args.out.now) (g.K.Sink.taken c.hand_over.new.out)
-    (segments c.args.table.now (g.T.Chars.characters c.args.text.now)) c.new-made.ensures.items taken)
+    (λ taken. all_put c.args.text.now _ (g.K.Sink.taken c.args.out.now) (g.K.Sink.taken c.hand_over.new.out)
+    (segments c.args.unit c.args.table.now c.args.text.now) c.new-made.ensures.items taken)
     c.hand_over.ensures

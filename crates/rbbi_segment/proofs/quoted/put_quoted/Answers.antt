@@ -6,7 +6,7 @@ use Rattle.rbbi_segment.proofs.quoted.put_quoted.Goals as goal
 
 pub loop-i-preserved : goal.loop-i-preserved
 loop-i-preserved g c =
-    let x : List ℕ = g.T.Chars.characters c.args.text.now in
+    let x : List ℕ = c.args.text.now in
     record {
       first = omega arith;
       put = subst (λ m. IsBuffered (g.K.Sink.taken c.args.out.now) (g.K.Sink.taken c.put_when_full.new.out) m c.put_when_full.new.made.items)

@@ -9,5 +9,5 @@ abbrev pub invariant-loop-i : goal.invariant-loop-i
 invariant-loop-i g l = record {
   first : l.fn.segment.start ≤ l.i;
   put : IsBuffered (g.K.Sink.taken l.initial.out) (g.K.Sink.taken l.out)
-      (l.fn.made.items ++ 34 ∷ flat_map (shown l.within) (slice_range (g.T.Chars.characters l.text) l.fn.segment.start l.i)) l.made.items;
+      (l.fn.made.items ++ 34 ∷ flat_map (shown l.within) (slice_range l.text l.fn.segment.start l.i)) l.made.items;
 }
