@@ -1,0 +1,151 @@
+-- Where the rows of a table agree with the monitor of a rule, the boundaries by the table are the places at which the rule breaks.
+use Rattle.std.proofs.Common.{◌≡◌, ℕ, zero, suc, ◌+◌, ◌-◌, ◌<◌, ◌≤◌, Bool, true, false, not, ◌||◌, cond, ltb, eqb, List, [], ◌∷◌, length, drop, get_or}
+use Rattle.std.proofs.Common.{sym, refl, ap, ◌∙◌, subst, ⊎_elim, arith, map}
+use Rattle.std.proofs.lemmas.Bool.{cases_Bool, cond-true, cond-false, cond_both, lt-ltb, le-ltb, true≢false, false≢true}
+use Rattle.std.proofs.lemmas.List.{drop_more, length-drop}
+use Rattle.unicode_segmentation.specs.Segments.{Rule}
+use Rattle.rbbi_model.specs.Boundaries.{Boundary, start}
+use Rattle.rbbi_model.specs.Cover.{places}
+use Rattle.rbbi_model.specs.Tables.{Table, accept_of, category_of, step, completes}
+use Rattle.rbbi_model.specs.Searches.{next_boundary, follow_by, table_boundaries}
+use Rattle.rbbi_model.proofs.Found.{found_lies}
+use Rattle.rbbi_annexes.specs.Breaks.{breaks_from, BreaksBy}
+use Rattle.rbbi_annexes.proofs.Monitors.{Monitor, seen, coming, Tells}
+use Rattle.rbbi_annexes.proofs.Scans.{ended, scan, next_is}
+
+-- the first place from `at` on at which the rule breaks, or else the text's end
+abbrev pub next_break : Rule → List ℕ → List ℕ → ℕ → ℕ
+next_break rule before [] at = at
+next_break rule before (c ∷ behind) at = cond (rule before (c ∷ behind)) at (next_break rule (c ∷ before) behind (at + 1))
+
+-- What must hold of the rows that searches reach. `Seen` holds of each state of the monitor. `In row m p settled` holds where a
+-- search reaches the row when the monitor is in state m and p is the number of what comes: if settled, the last end of a rule
+-- is the first break, and else the rule didn't break so far.
+pub record Agree {S : Type 0} (table : Table) (monitor : Monitor S) (kinds : ℕ) (Seen : S → Type 0) (In : ℕ → S → ℕ → Bool → Type 0) : Type 0 where
+  pub first : Seen monitor.start
+  pub more : (m : S) (k : ℕ) → k < table.categories → Seen m → Seen (monitor.next m k)
+  pub nothing : monitor.nothing < kinds
+  pub ahead : (k p : ℕ) → k < table.categories → p < kinds → monitor.ahead k p < kinds
+  pub begins : (m : S) (k p : ℕ) → k < table.categories → p < kinds → Seen m → monitor.breaks m k p ≡ true →
+      (eqb (step table 1 k) 0 ≡ false) × In (step table 1 k) (monitor.next m k) p false
+  pub ends : (row : ℕ) (m : S) (settled : Bool) → In row m monitor.nothing settled → eqb (accept_of table row) 1 ≡ not settled
+  pub allows : (row : ℕ) (m : S) (k p : ℕ) (settled : Bool) → k < table.categories → p < kinds → In row m (monitor.ahead k p) settled →
+      cond (eqb (accept_of table row) 1) (not settled) (settled || not (monitor.breaks m k p)) ≡ true
+  pub dies : (row : ℕ) (m : S) (k p : ℕ) (settled : Bool) → k < table.categories → p < kinds → In row m (monitor.ahead k p) settled →
+      eqb (step table row k) 0 ≡ true → cond (eqb (accept_of table row) 1) (monitor.breaks m k p) settled ≡ true
+  pub goes : (row : ℕ) (m : S) (k p : ℕ) (settled : Bool) → k < table.categories → p < kinds → In row m (monitor.ahead k p) settled →
+      eqb (step table row k) 0 ≡ false →
+      In (step table row k) (monitor.next m k) p (cond (eqb (accept_of table row) 1) (monitor.breaks m k p) settled)
+
+-- at the text's end
+by_end : (settled : Bool) (last at : ℕ) → cond (not settled) at last ≡ cond settled last at
+by_end true last at = refl
+by_end false last at = refl
+
+-- at a character, where what is allowed holds
+by_step : (accepts breaks settled : Bool) (last at further : ℕ) → cond accepts (not settled) (settled || not breaks) ≡ true →
+    cond (cond accepts breaks settled) (cond accepts at last) further ≡ cond settled last (cond breaks at further)
+by_step true breaks true last at further ok = absurd (false≢true ok)
+by_step true breaks false last at further ok = refl
+by_step false breaks true last at further ok = refl
+by_step false true false last at further ok = absurd (false≢true ok)
+by_step false false false last at further ok = refl
+
+-- what stands behind the first character that stands there
+beyond : (x : List ℕ) (at c : ℕ) (behind : List ℕ) → drop at x ≡ c ∷ behind → (at < length x) × (drop (at + 1) x ≡ behind)
+beyond x at c behind rest =
+    let short : at < length x = omega (arith, length-drop at x, ap length rest) in
+    (short, ap (λ l. drop 1 l) (sym (drop_more x at 0 short) ∙ rest))
+
+nothing_behind : (x : List ℕ) (at : ℕ) → drop at x ≡ [] → length x ≤ at
+nothing_behind x at rest = omega (arith, length-drop at x, ap length rest)
+
+module _ {S : Type 0} (table : Table) (monitor : Monitor S) (kinds : ℕ) (Seen : S → Type 0) (In : ℕ → S → ℕ → Bool → Type 0)
+    (agree : Agree table monitor kinds Seen In) (rule : Rule) (tells : Tells monitor (category_of table.ranges) rule)
+    (small : (c : ℕ) → category_of table.ranges c < table.categories) where
+  of : ℕ → ℕ
+  of c = category_of table.ranges c
+
+  seen_is : (before : List ℕ) → Seen (seen monitor (category_of table.ranges) before)
+  seen_is [] = agree.first
+  seen_is (c ∷ before) = agree.more (seen monitor (category_of table.ranges) before) (category_of table.ranges c) (small c) (seen_is before)
+
+  coming_within : (behind : List ℕ) → coming monitor (category_of table.ranges) behind < kinds
+  coming_within [] = agree.nothing
+  coming_within (c ∷ behind) =
+      agree.ahead (category_of table.ranges c) (coming monitor (category_of table.ranges) behind) (small c) (coming_within behind)
+
+  scan_breaks : (behind before : List ℕ) (row last at : ℕ) (settled : Bool) →
+      In row (seen monitor (category_of table.ranges) before) (coming monitor (category_of table.ranges) behind) settled →
+      scan table row last at behind ≡ cond settled last (next_break rule before behind at)
+  scan_breaks [] before row last at settled is =
+      ap (λ b. cond b at last) (agree.ends row (seen monitor (category_of table.ranges) before) settled is) ∙ by_end settled last at
+  scan_breaks (c ∷ behind) before row last at settled is =
+      let m : S = seen monitor (category_of table.ranges) before in
+      let k : ℕ = category_of table.ranges c in
+      let p : ℕ = coming monitor (category_of table.ranges) behind in
+      let accepts : Bool = eqb (accept_of table row) 1 in
+      let breaks : Bool = monitor.breaks m k p in
+      let further : ℕ = next_break rule (c ∷ before) behind (at + 1) in
+      let on : ℕ = scan table (step table row k) (cond accepts at last) (at + 1) behind in
+      let within = coming_within behind in
+      ⊎_elim
+      (λ none.
+      cond-true (eqb (step table row k) 0) (cond accepts at last) on none
+      ∙ sym (cond-true (cond accepts breaks settled) (cond accepts at last) further (agree.dies row m k p settled (small c) within is none)))
+      (λ some.
+      cond-false (eqb (step table row k) 0) (cond accepts at last) on some
+      ∙ scan_breaks behind (c ∷ before) (step table row k) (cond accepts at last) (at + 1) (cond accepts breaks settled)
+      (agree.goes row m k p settled (small c) within is some))
+      (cases_Bool (eqb (step table row k) 0))
+      ∙ by_step accepts breaks settled last at further (agree.allows row m k p settled (small c) within is)
+      ∙ ap (λ b. cond settled last (cond b at further)) (sym (tells.inside before c behind))
+
+  module _ (plain : (row : ℕ) → completes table row ≡ false) (dead : accept_of table 0 ≡ 0) (x : List ℕ) where
+    next_at : (s c : ℕ) (behind before : List ℕ) → drop s x ≡ c ∷ behind → rule before (c ∷ behind) ≡ true →
+        (next_boundary table x s).at ≡ next_break rule (c ∷ before) behind (s + 1)
+    next_at s c behind before rest breaks =
+        let begin = agree.begins (seen monitor (category_of table.ranges) before) (category_of table.ranges c) (coming monitor (category_of table.ranges) behind)
+        (small c) (coming_within behind) (seen_is before) (sym (tells.inside before c behind) ∙ breaks) in
+        next_is table plain dead x s c behind rest (beyond x s c behind rest).0 begin.0
+        ∙ scan_breaks behind (c ∷ before) (step table 1 (category_of table.ranges c)) (s + 1) (s + 1) false begin.1
+
+    -- the breaks from a place on are those from the first of them on
+    IsFrom : List ℕ → ℕ → Type 0
+    IsFrom breaks e =
+        (before behind : List ℕ) × (drop e x ≡ behind) × (rule before behind ≡ true) × (breaks ≡ breaks_from rule before behind e)
+
+    from_next : (behind before : List ℕ) (at : ℕ) → drop at x ≡ behind → IsFrom (breaks_from rule before behind at) (next_break rule before behind at)
+    unfolding IsFrom
+    from_next [] before at rest = (before, [], rest, tells.end before, refl)
+    from_next (c ∷ behind) before at rest =
+        let further : List ℕ = breaks_from rule (c ∷ before) behind (at + 1) in
+        cond_both (rule before (c ∷ behind)) at (next_break rule (c ∷ before) behind (at + 1)) (IsFrom (breaks_from rule before (c ∷ behind) at))
+        (λ breaks. (before, c ∷ behind, rest, breaks, refl))
+        (λ joins.
+        let next = from_next behind (c ∷ before) (at + 1) (beyond x at c behind rest).1 in
+        (next.0, next.1, next.2, next.3, cond-false (rule before (c ∷ behind)) (at ∷ further) further joins ∙ next.4))
+
+    follow_breaks : (most : ℕ) (before behind : List ℕ) (last : Boundary) → drop last.at x ≡ behind → length x ≤ last.at + most →
+        rule before behind ≡ true → places (last ∷ follow_by (next_boundary table x) (length x) most last) ≡ breaks_from rule before behind last.at
+    unfolding IsFrom
+    follow_breaks zero before [] last rest near breaks = sym (cond-true (rule before []) (last.at ∷ []) [] breaks)
+    follow_breaks zero before (c ∷ behind) last rest near breaks = absurd (omega (arith, near, (beyond x last.at c behind rest).0))
+    follow_breaks (suc most) before [] last rest near breaks =
+        let next : Boundary = next_boundary table x last.at in
+        ap (λ bs. places (last ∷ bs)) (cond-false (ltb last.at (length x)) (next ∷ follow_by (next_boundary table x) (length x) most next) []
+        (le-ltb last.at (length x) (nothing_behind x last.at rest)))
+        ∙ sym (cond-true (rule before []) (last.at ∷ []) [] breaks)
+    follow_breaks (suc most) before (c ∷ behind) last rest near breaks =
+        let next : Boundary = next_boundary table x last.at in
+        let past = beyond x last.at c behind rest in
+        let is : next.at ≡ next_break rule (c ∷ before) behind (last.at + 1) = next_at last.at c behind before rest breaks in
+        let further : List ℕ = breaks_from rule (c ∷ before) behind (last.at + 1) in
+        let from = subst (IsFrom further) (sym is) (from_next behind (c ∷ before) (last.at + 1) past.1) in
+        ap (λ bs. places (last ∷ bs)) (cond-true (ltb last.at (length x)) (next ∷ follow_by (next_boundary table x) (length x) most next) []
+        (lt-ltb last.at (length x) past.0))
+        ∙ ap (λ ps. last.at ∷ ps) (follow_breaks most from.0 from.1 next from.2 (omega (arith, near, (found_lies table x last.at past.0).0)) from.3 ∙ sym from.4)
+        ∙ sym (cond-true (rule before (c ∷ behind)) (last.at ∷ further) further breaks)
+
+  pub agreement : ((row : ℕ) → completes table row ≡ false) → accept_of table 0 ≡ 0 → BreaksBy table rule
+  agreement plain dead x = follow_breaks plain dead x (length x) [] x start refl (omega arith) (tells.start x)

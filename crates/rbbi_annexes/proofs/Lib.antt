@@ -1,0 +1,6 @@
+pub mod Monitors
+pub mod Scans
+pub mod Agreement
+pub mod Checker
+pub mod Categories
+pub mod Graphemes

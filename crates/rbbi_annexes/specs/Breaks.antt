@@ -1,0 +1,22 @@
+-- The places at which a rule of the kit breaks a text, and tables whose boundaries they are.
+use Rattle.std.specs.Prelude.{◌≡◌, ℕ, ◌+◌, List, [], ◌∷◌, if◌then◌else◌}
+use Rattle.unicode_segmentation.specs.Segments.{Rule}
+use Rattle.rbbi_model.specs.Cover.{places}
+use Rattle.rbbi_model.specs.Tables.{Table}
+use Rattle.rbbi_model.specs.Searches.{table_boundaries}
+
+-- The places from `at` on at which the rule breaks, in order. The characters before `at` are given nearest first, and then
+-- those behind it.
+abbrev pub breaks_from : Rule → List ℕ → List ℕ → ℕ → List ℕ
+breaks_from rule before [] at = if rule before [] then at ∷ [] else []
+breaks_from rule before (c ∷ behind) at =
+    let further = breaks_from rule (c ∷ before) behind (at + 1) in
+    if rule before (c ∷ behind) then at ∷ further else further
+
+-- the places of the text at which the rule breaks
+abbrev pub breaks_of : Rule → List ℕ → List ℕ
+breaks_of rule x = breaks_from rule [] x 0
+
+-- the boundaries of each text by the table are exactly the places at which the rule breaks
+abbrev pub BreaksBy : Table → Rule → Type 0
+BreaksBy table rule = (x : List ℕ) → places (table_boundaries table x) ≡ breaks_of rule x
