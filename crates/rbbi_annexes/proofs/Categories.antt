@@ -1,10 +1,11 @@
 -- Each character has the properties that its category's first character has.
-use Rattle.std.proofs.Common.{◌≡◌, ℕ, Bool, true, ◌&&◌, leb, List, [], ◌∷◌, get_or, sym, ◌∙◌, ⊎_elim}
-use Rattle.std.proofs.lemmas.Bool.{cases_lt, cond-true, cond-false, le-leb, lt-leb}
+use Rattle.std.proofs.Common.{◌≡◌, ℕ, Bool, true, false, ◌&&◌, ◌||◌, leb, List, [], ◌∷◌, get_or, sym, refl, ap, ◌∙◌, ⊎_elim, arith}
+use Rattle.std.proofs.lemmas.Bool.{cases_lt, cond-true, cond-false, le-leb, lt-leb, and_parts}
 use Rattle.ucd_table.specs.Steps.{Step, step_value}
 use Rattle.ucd_table.proofs.StepsLemmas.{step_value-nil, step_value-here, step_value-later}
 use Rattle.ucd_table.proofs.Stepped.{Stepped, zip_stepped}
-use Rattle.ucd_table.proofs.Facts.{always, ends_by, Stepped-everywhere}
+use Rattle.ucd_table.proofs.Facts.{always, Stepped-always}
+use Rattle.rbbi_model.specs.Words.{IsCharacter}
 use Rattle.rbbi_model.specs.Tables.{CategoryRange, category_from, category_of}
 
 -- below the start of each range the category of the one before
@@ -37,18 +38,45 @@ category_from-steps before (range ∷ ranges) c =
 abbrev pub category_stepped : (ranges : List CategoryRange) → Stepped (category_of ranges)
 category_stepped ranges = record { default = last_of 0 ranges; steps = steps_of 0 ranges; gives = category_from-steps 0 ranges }
 
+-- the code points that stand for no character
+abbrev pub is_surrogate : ℕ → Bool
+is_surrogate c = step_value false ((0xD800, false) ∷ (0xE000, true) ∷ []) c
+
+abbrev pub surrogate_stepped : Stepped is_surrogate
+surrogate_stepped = record { default = false; steps = (0xD800, false) ∷ (0xE000, true) ∷ []; gives = λ c. refl }
+
+no_surrogate : (c : ℕ) → IsCharacter c → is_surrogate c ≡ false
+no_surrogate c is =
+    let first : Step Bool = (0xD800, false) in
+    let second : Step Bool = (0xE000, true) in
+    ⊎_elim
+    (λ below. step_value-here false first (second ∷ []) c below)
+    (λ from.
+    step_value-later false first (second ∷ []) c from
+    ∙ ⊎_elim
+    (λ within. absurd (is.1 (from, omega (arith, within))))
+    (λ past. step_value-later false second [] c past ∙ step_value-nil false c)
+    (cases_lt c 0xE000))
+    (cases_lt c 0xD800)
+
 module _ {V : Type 0} (same : V → V → Bool) (equal : (v w : V) → same v w ≡ true → v ≡ w) (of : ℕ → V) (stepped : Stepped of) (classes : List V) (other : V)
-    (ranges : List CategoryRange) where
+    (lives : ℕ → Bool) (ranges : List CategoryRange) where
   abbrev pub has_class : ℕ → V → Bool
-  has_class k v = same (get_or classes k other) v
+  has_class k v = lives k && same (get_or classes k other) v
 
-  abbrev pub fits_stepped : Stepped (λ c. has_class (category_of ranges c) (of c))
-  fits_stepped = zip_stepped has_class (category_of ranges) of (category_stepped ranges) stepped
+  abbrev pub fits_stepped : Stepped (λ c. is_surrogate c || has_class (category_of ranges c) (of c))
+  fits_stepped =
+      zip_stepped ◌||◌ is_surrogate (λ c. has_class (category_of ranges c) (of c)) surrogate_stepped
+      (zip_stepped has_class (category_of ranges) of (category_stepped ranges) stepped)
 
-  -- each character has the class of its category
+  -- each character has the class of its category, and that is used
   abbrev pub classes_fit : Bool
-  classes_fit =
-      always (λ c. has_class (category_of ranges c) (of c)) fits_stepped && (ends_by 0x11_0000 fits_stepped.steps && fits_stepped.default)
+  classes_fit = always (λ c. is_surrogate c || has_class (category_of ranges c) (of c)) fits_stepped
 
-  pub class_is : classes_fit ≡ true → (c : ℕ) → get_or classes (category_of ranges c) other ≡ of c
-  class_is ok c = equal (get_or classes (category_of ranges c) other) (of c) (Stepped-everywhere (λ d. has_class (category_of ranges d) (of d)) fits_stepped ok c)
+  pub class_is : classes_fit ≡ true → (c : ℕ) → IsCharacter c →
+      (lives (category_of ranges c) ≡ true) × (get_or classes (category_of ranges c) other ≡ of c)
+  class_is ok c is =
+      let k : ℕ = category_of ranges c in
+      let both = Stepped-always (λ d. is_surrogate d || has_class (category_of ranges d) (of d)) fits_stepped ok c is.0 in
+      let has = and_parts (lives k) (same (get_or classes k other) (of c)) (ap (λ b. b || has_class k (of c)) (sym (no_surrogate c is)) ∙ both) in
+      (has.0, equal (get_or classes k other) (of c) has.1)

@@ -130,7 +130,24 @@ module _ {S : Type 0} (same : S → S → Bool) where
         marks = same_marks-true a.marks b.marks rest.0 i;
       }
 
-  module _ (table : Table) (monitor : Monitor S) (kinds : ℕ) where
+  module _ (table : Table) (monitor : Monitor S) (kinds : ℕ) (lives : ℕ → Bool) where
+    -- a category of the table that a character may have
+    abbrev pub IsUsed : ℕ → Type 0
+    IsUsed k = (k < table.categories) × (lives k ≡ true)
+
+    -- each category that is used passes
+    unfoldable pub all_used : (ℕ → Bool) → Bool
+    all_used test = all_below (λ k. let passed = test k in cond (lives k) passed true) table.categories
+
+    all_used-at : (test : ℕ → Bool) → all_used test ≡ true → (k : ℕ) → IsUsed k → test k ≡ true
+    unfolding all_used
+    all_used-at test all k used =
+        sym (cond-true (lives k) (test k) true used.1) ∙ all_below-at (λ j. cond (lives j) (test j) true) table.categories k all used.0
+
+    -- what each category that is used gives
+    unfoldable pub over_used : {X : Type 0} → (ℕ → List X) → List X
+    over_used f = joined (values (λ k. let given = f k in cond (lives k) given []) 0 table.categories)
+
     -- the next row, by the cells from those of the row on
     abbrev pub cells_of : ℕ → List ℕ
     cells_of row = drop (row * table.categories) table.cells
@@ -156,7 +173,7 @@ module _ {S : Type 0} (same : S → S → Bool) where
     after_entry entry =
         let cells = cells_of entry.row in
         let accepts = eqb (accept_of table entry.row) 1 in
-        joined (values (λ k. let next = after_category entry accepts cells k in cond (eqb (get_or cells k 0) 0) [] (next ∷ [])) 0 table.categories)
+        over_used (λ k. let next = after_category entry accepts cells k in cond (eqb (get_or cells k 0) 0) [] (next ∷ []))
 
     -- the marks at the start of a search
     abbrev pub first_marks : S → ℕ → Marks
@@ -169,7 +186,7 @@ module _ {S : Type 0} (same : S → S → Bool) where
     unfoldable pub entries_from : S → List (Entry S)
     entries_from state =
         let cells = cells_of 1 in
-        joined (values (λ k. let entry = first_entry state cells k in cond (some_open (first_marks state k)) (entry ∷ []) []) 0 table.categories)
+        over_used (λ k. let entry = first_entry state cells k in cond (some_open (first_marks state k)) (entry ∷ []) [])
 
     unfoldable pub starts : List S → List (Entry S)
     starts [] = []
@@ -177,14 +194,14 @@ module _ {S : Type 0} (same : S → S → Bool) where
 
     -- the states that a text leads to
     unfoldable pub states_found : ℕ → List S
-    states_found fuel = explore same (λ state. values (monitor.next state) 0 table.categories) fuel (monitor.start ∷ []) []
+    states_found fuel = explore same (λ state. over_used (λ k. monitor.next state k ∷ [])) fuel (monitor.start ∷ []) []
 
     -- the entries that searches reach
     unfoldable pub entries_found : ℕ → List S → List (Entry S)
     entries_found fuel states = explore same_entry after_entry fuel (starts states) []
 
     unfoldable pub numbers_pass : Bool
-    numbers_pass = ltb monitor.nothing kinds && all_below (λ k. all_below (λ p. ltb (monitor.ahead k p) kinds) kinds) table.categories
+    numbers_pass = ltb monitor.nothing kinds && all_used (λ k. all_below (λ p. ltb (monitor.ahead k p) kinds) kinds)
 
     module _ (states : List S) (entries : List (Entry S)) where
       unfoldable pub begins_at : S → List ℕ → ℕ → Bool
@@ -195,7 +212,7 @@ module _ {S : Type 0} (same : S → S → Bool) where
       unfoldable pub state_passes : S → Bool
       state_passes state =
           let cells = cells_of 1 in
-          all_below (λ k. member same (monitor.next state k) states && begins_at state cells k) table.categories
+          all_used (λ k. member same (monitor.next state k) states && begins_at state cells k)
 
       unfoldable pub end_passes : Bool → Option Bool → Bool
       end_passes accepts None = true
@@ -211,7 +228,7 @@ module _ {S : Type 0} (same : S → S → Bool) where
           let cells = cells_of entry.row in
           let accepts = eqb (accept_of table entry.row) 1 in
           end_passes accepts (get_or entry.marks monitor.nothing None)
-          && all_below (λ k. all_below (λ p. permitted accepts entry.state k p (get_or entry.marks (monitor.ahead k p) None)) kinds && goes_at entry accepts cells k) table.categories
+          && all_used (λ k. all_below (λ p. permitted accepts entry.state k p (get_or entry.marks (monitor.ahead k p) None)) kinds && goes_at entry accepts cells k)
 
       unfoldable pub passes : Bool
       passes = member same monitor.start states && (numbers_pass && (each state_passes states && each entry_passes entries))
@@ -226,9 +243,6 @@ module _ {S : Type 0} (same : S → S → Bool) where
           (marks : Marks) × (member same_entry (record { row = row; state = m; marks = marks }) entries ≡ true) × (get_or marks p None ≡ Some settled)
 
       module _ (equal : (a b : S) → same a b ≡ true → a ≡ b) (ok : passes ≡ true) where
-        n : ℕ
-        n = table.categories
-
         parts : (member same monitor.start states ≡ true) × (numbers_pass ≡ true) × (each state_passes states ≡ true) × (each entry_passes entries ≡ true)
         unfolding passes
         parts =
@@ -241,14 +255,14 @@ module _ {S : Type 0} (same : S → S → Bool) where
         unfolding numbers_pass
         nothing_within =
             ltb-true monitor.nothing kinds
-            (and_parts (ltb monitor.nothing kinds) (all_below (λ k. all_below (λ p. ltb (monitor.ahead k p) kinds) kinds) table.categories) parts.1).0
+            (and_parts (ltb monitor.nothing kinds) (all_used (λ k. all_below (λ p. ltb (monitor.ahead k p) kinds) kinds)) parts.1).0
 
-        ahead_within : (k p : ℕ) → k < table.categories → p < kinds → monitor.ahead k p < kinds
+        ahead_within : (k p : ℕ) → IsUsed k → p < kinds → monitor.ahead k p < kinds
         unfolding numbers_pass
         ahead_within k p of few =
-            let all = and_parts (ltb monitor.nothing kinds) (all_below (λ j. all_below (λ q. ltb (monitor.ahead j q) kinds) kinds) table.categories) parts.1 in
+            let all = and_parts (ltb monitor.nothing kinds) (all_used (λ j. all_below (λ q. ltb (monitor.ahead j q) kinds) kinds)) parts.1 in
             ltb-true (monitor.ahead k p) kinds (all_below-at (λ q. ltb (monitor.ahead k q) kinds) kinds p
-            (all_below-at (λ j. all_below (λ q. ltb (monitor.ahead j q) kinds) kinds) table.categories k all.1 of) few)
+            (all_used-at (λ j. all_below (λ q. ltb (monitor.ahead j q) kinds) kinds) all.1 k of) few)
 
         cell_is : (row k : ℕ) → get_or (drop (row * table.categories) table.cells) k 0 ≡ step table row k
         cell_is row k = get_or-drop (row * table.categories) table.cells k 0
@@ -257,15 +271,15 @@ module _ {S : Type 0} (same : S → S → Bool) where
         value_at f p d few = get_or-values f 0 kinds p d few ∙ ap f (let e : 0 + p ≡ p = omega arith in e)
 
         -- what was tested of a state and a category
-        state_at : (m : S) (k : ℕ) → k < table.categories → IsState m →
+        state_at : (m : S) (k : ℕ) → IsUsed k → IsState m →
             (member same (monitor.next m k) states ≡ true) × (begins_at m (cells_of 1) k ≡ true)
         unfolding state_passes
         state_at m k of is =
             let test : ℕ → Bool = λ j. member same (monitor.next m j) states && begins_at m (cells_of 1) j in
             and_parts (member same (monitor.next m k) states) (begins_at m (cells_of 1) k)
-            (all_below-at test table.categories k (each-member same equal state_passes m states parts.2 is) of)
+            (all_used-at test (each-member same equal state_passes m states parts.2 is) k of)
 
-        begins : (m : S) (k p : ℕ) → k < table.categories → p < kinds → IsState m → monitor.breaks m k p ≡ true →
+        begins : (m : S) (k p : ℕ) → IsUsed k → p < kinds → IsState m → monitor.breaks m k p ≡ true →
             (eqb (step table 1 k) 0 ≡ false) × IsReached (step table 1 k) (monitor.next m k) p false
         unfolding begins_at
         begins m k p of few is breaks =
@@ -286,19 +300,19 @@ module _ {S : Type 0} (same : S → S → Bool) where
 
         entry_at : (entry : Entry S) → member same_entry entry entries ≡ true →
             (end_passes (accepts_at entry.row) (get_or entry.marks monitor.nothing None) ≡ true)
-            × ((k : ℕ) → k < table.categories →
+            × ((k : ℕ) → IsUsed k →
             ((p : ℕ) → p < kinds → permitted (accepts_at entry.row) entry.state k p (get_or entry.marks (monitor.ahead k p) None) ≡ true)
             × (goes_at entry (accepts_at entry.row) (cells_of entry.row) k ≡ true))
         unfolding entry_passes
         entry_at entry is =
             let permits : ℕ → ℕ → Bool = λ k p. permitted (accepts_at entry.row) entry.state k p (get_or entry.marks (monitor.ahead k p) None) in
             let goes : ℕ → Bool = goes_at entry (accepts_at entry.row) (cells_of entry.row) in
-            let all : Bool = all_below (λ k. all_below (permits k) kinds && goes k) table.categories in
+            let all : Bool = all_used (λ k. all_below (permits k) kinds && goes k) in
             let tested = and_parts (end_passes (accepts_at entry.row) (get_or entry.marks monitor.nothing None)) all
             (each-member same_entry (same_entry-true equal) entry_passes entry entries parts.3 is) in (
               tested.0,
               λ k of.
-                  let both = and_parts (all_below (permits k) kinds) (goes k) (all_below-at (λ j. all_below (permits j) kinds && goes j) table.categories k tested.1 of) in
+                  let both = and_parts (all_below (permits k) kinds) (goes k) (all_used-at (λ j. all_below (permits j) kinds && goes j) tested.1 k of) in
                   (λ p few. all_below-at (permits k) kinds p both.0 few, both.1),
             )
 
@@ -308,7 +322,7 @@ module _ {S : Type 0} (same : S → S → Bool) where
             let entry : Entry S = record { row = row; state = m; marks = is.0 } in
             same_from_beq (accepts_at row) (not settled) (ap (end_passes (accepts_at row)) (sym is.2) ∙ (entry_at entry is.1).0)
 
-        allows : (row : ℕ) (m : S) (k p : ℕ) (settled : Bool) → k < table.categories → p < kinds → IsReached row m (monitor.ahead k p) settled →
+        allows : (row : ℕ) (m : S) (k p : ℕ) (settled : Bool) → IsUsed k → p < kinds → IsReached row m (monitor.ahead k p) settled →
             cond (eqb (accept_of table row) 1) (not settled) (settled || not (monitor.breaks m k p)) ≡ true
         unfolding permitted
         allows row m k p settled of few is =
@@ -323,7 +337,7 @@ module _ {S : Type 0} (same : S → S → Bool) where
             value_at (λ q. marked (accepts_at row) m k q (get_or is.0 (monitor.ahead k q) None)) p None few
             ∙ ap (marked (accepts_at row) m k p) is.2
 
-        dies : (row : ℕ) (m : S) (k p : ℕ) (settled : Bool) → k < table.categories → p < kinds → IsReached row m (monitor.ahead k p) settled →
+        dies : (row : ℕ) (m : S) (k p : ℕ) (settled : Bool) → IsUsed k → p < kinds → IsReached row m (monitor.ahead k p) settled →
             eqb (step table row k) 0 ≡ true → cond (eqb (accept_of table row) 1) (monitor.breaks m k p) settled ≡ true
         unfolding goes_at
         dies row m k p settled of few is none =
@@ -340,7 +354,7 @@ module _ {S : Type 0} (same : S → S → Bool) where
             (λ fails. absurd (false≢true (sym shut ∙ some_open-at marks p (mark_after row m k p settled few is ∙ ap Some fails))))
             (cases_Bool mark)
 
-        goes : (row : ℕ) (m : S) (k p : ℕ) (settled : Bool) → k < table.categories → p < kinds → IsReached row m (monitor.ahead k p) settled →
+        goes : (row : ℕ) (m : S) (k p : ℕ) (settled : Bool) → IsUsed k → p < kinds → IsReached row m (monitor.ahead k p) settled →
             eqb (step table row k) 0 ≡ false →
             IsReached (step table row k) (monitor.next m k) p (cond (eqb (accept_of table row) 1) (monitor.breaks m k p) settled)
         unfolding goes_at
@@ -356,7 +370,7 @@ module _ {S : Type 0} (same : S → S → Bool) where
               mark_after row m k p settled few is,
             )
 
-        pub agrees : Agree table monitor kinds IsState IsReached
+        pub agrees : Agree table monitor kinds IsUsed IsState IsReached
         agrees =
             record {
               first = parts.0;

@@ -16,6 +16,7 @@ use Rattle.ucd_derived.proofs.IndicConjunctBreakLemmas.{indic_conjunct_break_ste
 use Rattle.ucd_emoji.specs.Binary.{is_extended_pictographic}
 use Rattle.ucd_emoji.proofs.BinaryLemmas.{is_extended_pictographic_stepped}
 use Rattle.unicode_segmentation.specs.Grapheme.{break_by_pair, ends_in_linker, is_consonant, is_extend, is_zwj, is_regional, ends_in_pictograph, ends_in_half_flag, is_grapheme_break}
+use Rattle.rbbi_model.specs.Words.{IsCharacter, IsText}
 use Rattle.rbbi_annexes.proofs.Monitors.{Monitor, seen, coming, Tells}
 
 -- what the rules read of a character
@@ -146,7 +147,7 @@ links_is InCb.Extend vs = refl
 links_is InCb.Consonant vs = refl
 links_is InCb.None vs = refl
 
-module _ (classes : List Class) (category : ℕ → ℕ) (fits : (c : ℕ) → get_or classes (category c) other_class ≡ class_of c) where
+module _ (classes : List Class) (category : ℕ → ℕ) (fits : (c : ℕ) → IsCharacter c → get_or classes (category c) other_class ≡ class_of c) where
   with_linker : {linker : Bool} (c : ℕ) (before : List ℕ) → linker ≡ ends_in_linker (map indic_conjunct_break (c ∷ before)) →
       record {
         last = Some (grapheme_cluster_break c);
@@ -169,9 +170,9 @@ module _ (classes : List Class) (category : ℕ → ℕ) (fits : (c : ℕ) → g
   after_is c [] = with_linker c [] (links_is (indic_conjunct_break c) [])
   after_is c (d ∷ before) = with_linker c (d ∷ before) (links_is (indic_conjunct_break c) (map indic_conjunct_break (d ∷ before)))
 
-  seen_state : (before : List ℕ) → seen (grapheme_monitor classes) category before ≡ state_of before
-  seen_state [] = refl
-  seen_state (c ∷ before) = ap₂ after_class (seen_state before) (fits c) ∙ after_is c before
+  seen_state : (before : List ℕ) → IsText before → seen (grapheme_monitor classes) category before ≡ state_of before
+  seen_state [] are = refl
+  seen_state (c ∷ before) are = ap₂ after_class (seen_state before are.1) (fits c are.0) ∙ after_is c before
 
   breaks_is : (before : List ℕ) (c : ℕ) (behind : List ℕ) → is_grapheme_break true before (c ∷ behind) ≡ breaks_by (state_of before).last (state_of before) (class_of c)
   unfolding is_grapheme_break breaks_by
@@ -192,6 +193,6 @@ module _ (classes : List Class) (category : ℕ → ℕ) (fits : (c : ℕ) → g
       record {
         start = start_breaks;
         end = end_breaks;
-        inside = λ before c behind.
-            breaks_is before c behind ∙ sym (ap₂ (λ m class. breaks_by m.last m class) (seen_state before) (fits c));
+        inside = λ before c behind before_are is behind_are.
+            breaks_is before c behind ∙ sym (ap₂ (λ m class. breaks_by m.last m class) (seen_state before before_are) (fits c is));
       }

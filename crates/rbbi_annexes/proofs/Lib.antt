@@ -4,3 +4,4 @@ pub mod Agreement
 pub mod Checker
 pub mod Categories
 pub mod Graphemes
+pub mod Reading

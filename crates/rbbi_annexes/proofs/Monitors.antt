@@ -1,6 +1,7 @@
 -- What a rule needs to know of a text: a state of what stands before a place, and a number for what stands behind it.
 use Rattle.std.specs.Prelude.{◌≡◌, ℕ, Bool, true, List, [], ◌∷◌}
 use Rattle.unicode_segmentation.specs.Segments.{Rule}
+use Rattle.rbbi_model.specs.Words.{IsCharacter, IsText}
 
 -- The state before the first character, and the one after a character of a category; the number of nothing, and the one of a
 -- character of a category with what stands behind it. The rule breaks, or not, by the state before a place, the category of
@@ -26,5 +27,5 @@ coming monitor category (c ∷ behind) = monitor.ahead (category c) (coming moni
 pub record Tells {S : Type 0} (monitor : Monitor S) (category : ℕ → ℕ) (rule : Rule) : Type 0 where
   pub start : (behind : List ℕ) → rule [] behind ≡ true
   pub end : (before : List ℕ) → rule before [] ≡ true
-  pub inside : (before : List ℕ) (c : ℕ) (behind : List ℕ) →
+  pub inside : (before : List ℕ) (c : ℕ) (behind : List ℕ) → IsText before → IsCharacter c → IsText behind →
       rule before (c ∷ behind) ≡ monitor.breaks (seen monitor category before) (category c) (coming monitor category behind)

@@ -1,6 +1,7 @@
 -- The places at which a rule of the kit breaks a text, and tables whose boundaries they are.
 use Rattle.std.specs.Prelude.{◌≡◌, ℕ, ◌+◌, List, [], ◌∷◌, if◌then◌else◌}
 use Rattle.unicode_segmentation.specs.Segments.{Rule}
+use Rattle.rbbi_model.specs.Words.{IsText}
 use Rattle.rbbi_model.specs.Cover.{places}
 use Rattle.rbbi_model.specs.Tables.{Table}
 use Rattle.rbbi_model.specs.Searches.{table_boundaries}
@@ -19,4 +20,4 @@ breaks_of rule x = breaks_from rule [] x 0
 
 -- the boundaries of each text by the table are exactly the places at which the rule breaks
 abbrev pub BreaksBy : Table → Rule → Type 0
-BreaksBy table rule = (x : List ℕ) → places (table_boundaries table x) ≡ breaks_of rule x
+BreaksBy table rule = (x : List ℕ) → IsText x → places (table_boundaries table x) ≡ breaks_of rule x
