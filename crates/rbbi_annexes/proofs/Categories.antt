@@ -1,6 +1,6 @@
 -- Each character has the properties that its category's first character has.
-use Rattle.std.proofs.Common.{◌≡◌, ℕ, Bool, true, false, ◌&&◌, ◌||◌, leb, List, [], ◌∷◌, get_or, sym, refl, ap, ◌∙◌, ⊎_elim, arith}
-use Rattle.std.proofs.lemmas.Bool.{cases_lt, cond-true, cond-false, le-leb, lt-leb, and_parts}
+use Rattle.std.proofs.Common.{◌≡◌, ℕ, Bool, true, false, ◌&&◌, ◌||◌, leb, ltb, ◌<◌, List, [], ◌∷◌, get_or, sym, refl, ap, ◌∙◌, ⊎_elim, arith}
+use Rattle.std.proofs.lemmas.Bool.{cases_lt, cond-true, cond-false, le-leb, lt-leb, and_parts, ltb-true}
 use Rattle.ucd_table.specs.Steps.{Step, step_value}
 use Rattle.ucd_table.proofs.StepsLemmas.{step_value-nil, step_value-here, step_value-later}
 use Rattle.ucd_table.proofs.Stepped.{Stepped, zip_stepped}
@@ -60,9 +60,9 @@ no_surrogate c is =
     (cases_lt c 0xD800)
 
 module _ {V : Type 0} (same : V → V → Bool) (equal : (v w : V) → same v w ≡ true → v ≡ w) (of : ℕ → V) (stepped : Stepped of) (classes : List V) (other : V)
-    (lives : ℕ → Bool) (ranges : List CategoryRange) where
+    (categories : ℕ) (lives : ℕ → Bool) (ranges : List CategoryRange) where
   abbrev pub has_class : ℕ → V → Bool
-  has_class k v = lives k && same (get_or classes k other) v
+  has_class k v = ltb k categories && (lives k && same (get_or classes k other) v)
 
   abbrev pub fits_stepped : Stepped (λ c. is_surrogate c || has_class (category_of ranges c) (of c))
   fits_stepped =
@@ -74,9 +74,11 @@ module _ {V : Type 0} (same : V → V → Bool) (equal : (v w : V) → same v w 
   classes_fit = always (λ c. is_surrogate c || has_class (category_of ranges c) (of c)) fits_stepped
 
   pub class_is : classes_fit ≡ true → (c : ℕ) → IsCharacter c →
-      (lives (category_of ranges c) ≡ true) × (get_or classes (category_of ranges c) other ≡ of c)
+      (category_of ranges c < categories) × (lives (category_of ranges c) ≡ true) × (get_or classes (category_of ranges c) other ≡ of c)
   class_is ok c is =
       let k : ℕ = category_of ranges c in
       let both = Stepped-always (λ d. is_surrogate d || has_class (category_of ranges d) (of d)) fits_stepped ok c is.0 in
-      let has = and_parts (lives k) (same (get_or classes k other) (of c)) (ap (λ b. b || has_class k (of c)) (sym (no_surrogate c is)) ∙ both) in
-      (has.0, equal (get_or classes k other) (of c) has.1)
+      let has = and_parts (ltb k categories) (lives k && same (get_or classes k other) (of c))
+      (ap (λ b. b || has_class k (of c)) (sym (no_surrogate c is)) ∙ both) in
+      let rest = and_parts (lives k) (same (get_or classes k other) (of c)) has.1 in
+      (ltb-true k categories has.0, rest.0, equal (get_or classes k other) (of c) rest.1)

@@ -1,61 +1,257 @@
--- The table that the bytes of a table file spell, in version 2 with at most 255 rows.
-use Rattle.std.proofs.Common.{ℕ, zero, suc, ◌+◌, ◌*◌, List, [], ◌∷◌, ◌++◌, get_or, take, drop, eqb, cond}
-use Rattle.rbbi_model.specs.Tables.{Table, CategoryRange, RowHead}
+-- Reading a table back from its spelling, as far as the places of boundaries depend on it.
+use Rattle.std.proofs.Common.{◌≡◌, ℕ, zero, suc, ◌+◌, ◌*◌, ◌/◌, ◌%◌, ◌<◌, ◌≤◌, cond, List, [], ◌∷◌, ◌++◌, length, get_or, take, drop, refl, ap, ap₂, sym, ◌∙◌, subst, arith}
+use Rattle.std.proofs.Common.{append_assoc, mod-eq_of_lt, div-add-mod', ◌^◌, ◌⊎◌, inl, inr, lit<}
+use Rattle.std.specs.List.{AllByRecursion, flat_map}
+use Rattle.std.proofs.Math.Nat.{pow-le-pow_right}
+use Rattle.std.proofs.lemmas.Bool.{le-leb}
+use Rattle.std.proofs.lemmas.Nat.{div_below, mod_below}
+use Rattle.std.proofs.lemmas.List.{take-append-drop, take-append-le, drop-append-le, length-take-le, length-drop, nil_from_length, take_all, drop_all}
+use Rattle.rbbi_model.specs.Tables.{Table, CategoryRange, RowHead, empty_head}
+use Rattle.rbbi_model.specs.ValidTables.{AreApart, IsWithin, IsValidList, IsValidTable}
+use Rattle.rbbi_model.specs.TableFile.{little_endian, u16, u32, magic, counts, cell_size, range_bytes, list_bytes, head_bytes, row_bytes, file_bytes, spelling, IsSpelling}
+use Rattle.rbbi_model.proofs.Lists.{all_by_index, all_drop, all_take, all_through}
 
+-- a number in two bytes, and in four, the one of least value first
 abbrev pub two : ℕ → ℕ → ℕ
 two a b = a + 256 * b
 
 abbrev pub four : ℕ → ℕ → ℕ → ℕ → ℕ
 four a b c d = a + 256 * b + 65536 * c + 16777216 * d
 
--- what is read first, and the bytes behind it
-pub record Read (X : Type 0) : Type 0 where
-  pub read : X
-  pub behind : List ℕ
+two_is : (n : ℕ) → n < 65536 → two (n % 256) (n / 256 % 256) ≡ n
+two_is n small = omega (arith, small)
+
+four_is : (n : ℕ) → n < 4294967296 → four (n % 256) (n / 256 % 256) (n / 256 / 256 % 256) (n / 256 / 256 / 256 % 256) ≡ n
+four_is n small = omega (arith, small)
+
+-- ---- each part, and what stands behind it
 
 unfoldable pub ranges_in : ℕ → List ℕ → List CategoryRange
 ranges_in zero bytes = []
 ranges_in (suc n) (a ∷ b ∷ c ∷ d ∷ e ∷ f ∷ bytes) = record { start = four a b c d; category = two e f } ∷ ranges_in n bytes
 ranges_in (suc n) _ = []
 
-unfoldable pub numbers_in : ℕ → List ℕ → List ℕ
-numbers_in zero bytes = []
-numbers_in (suc n) (a ∷ b ∷ c ∷ d ∷ bytes) = four a b c d ∷ numbers_in n bytes
-numbers_in (suc n) _ = []
+unfoldable pub ranges_behind : ℕ → List ℕ → List ℕ
+ranges_behind zero bytes = bytes
+ranges_behind (suc n) (a ∷ b ∷ c ∷ d ∷ e ∷ f ∷ bytes) = ranges_behind n bytes
+ranges_behind (suc n) _ = []
 
-unfoldable pub lists_in : ℕ → List ℕ → Read (List (List ℕ))
-lists_in zero bytes = record { read = []; behind = bytes }
-lists_in (suc n) bytes =
-    let count = two (get_or bytes 0 0) (get_or bytes 1 0) in
-    let further = lists_in n (drop (2 + 4 * count) bytes) in
-    record { read = numbers_in count (drop 2 bytes) ∷ further.read; behind = further.behind }
+unfoldable pub numbers_behind : ℕ → List ℕ → List ℕ
+numbers_behind zero bytes = bytes
+numbers_behind (suc n) (a ∷ b ∷ c ∷ d ∷ bytes) = numbers_behind n bytes
+numbers_behind (suc n) _ = []
+
+unfoldable pub lists_behind : ℕ → List ℕ → List ℕ
+lists_behind zero bytes = bytes
+lists_behind (suc n) (a ∷ b ∷ bytes) = lists_behind n (numbers_behind (two a b) bytes)
+lists_behind (suc n) _ = []
 
 unfoldable pub heads_in : ℕ → ℕ → List ℕ → List RowHead
 heads_in zero categories bytes = []
-heads_in (suc n) categories bytes =
-    record {
-      accept = two (get_or bytes 0 0) (get_or bytes 1 0);
-      fronts = four (get_or bytes 2 0) (get_or bytes 3 0) (get_or bytes 4 0) (get_or bytes 5 0);
-      list = two (get_or bytes 6 0) (get_or bytes 7 0);
-    } ∷ heads_in n categories (drop (8 + categories) bytes)
+heads_in (suc n) categories (a ∷ b ∷ c ∷ d ∷ e ∷ f ∷ g ∷ h ∷ bytes) =
+    record { accept = two a b; fronts = four c d e f; list = two g h } ∷ heads_in n categories (drop categories bytes)
+heads_in (suc n) categories _ = []
 
 unfoldable pub cells_in : ℕ → ℕ → List ℕ → List ℕ
 cells_in zero categories bytes = []
-cells_in (suc n) categories bytes = take categories (drop 8 bytes) ++ cells_in n categories (drop (8 + categories) bytes)
+cells_in (suc n) categories (a ∷ b ∷ c ∷ d ∷ e ∷ f ∷ g ∷ h ∷ bytes) = take categories bytes ++ cells_in n categories (drop categories bytes)
+cells_in (suc n) categories _ = []
 
-unfoldable pub table_in : List ℕ → Table
-table_in bytes =
-    let at : ℕ → ℕ = λ i. two (get_or bytes i 0) (get_or bytes (i + 1) 0) in
-    let categories : ℕ = at 8 in
-    let ranges : ℕ = at 10 + 65536 * at 12 in
-    let lists = lists_in (at 14) (drop (20 + 6 * ranges) bytes) in
-    let rows : ℕ = at 16 in
+FitsRange : CategoryRange → Type 0
+FitsRange range = (range.start < 4294967296) × (range.category < 65536)
+
+ranges_are : (ranges : List CategoryRange) (rest : List ℕ) → AllByRecursion FitsRange ranges →
+    ranges_in (length ranges) (flat_map range_bytes ranges ++ rest) ≡ ranges
+unfolding ranges_in FitsRange
+ranges_are [] rest fit = refl
+ranges_are (range ∷ ranges) rest fit =
+    ap₂ (λ (r : CategoryRange) rs. r ∷ rs) (λ i. record { start = four_is range.start fit.0.0 i; category = two_is range.category fit.0.1 i })
+    (ranges_are ranges rest fit.1)
+
+behind_ranges : (ranges : List CategoryRange) (rest : List ℕ) → ranges_behind (length ranges) (flat_map range_bytes ranges ++ rest) ≡ rest
+unfolding ranges_behind
+behind_ranges [] rest = refl
+behind_ranges (range ∷ ranges) rest = behind_ranges ranges rest
+
+behind_numbers : (ns : List ℕ) (rest : List ℕ) → numbers_behind (length ns) (flat_map u32 ns ++ rest) ≡ rest
+unfolding numbers_behind
+behind_numbers [] rest = refl
+behind_numbers (n ∷ ns) rest = behind_numbers ns rest
+
+behind_lists : (lists : List (List ℕ)) (rest : List ℕ) → AllByRecursion (λ statuses. length statuses < 65536) lists →
+    lists_behind (length lists) (flat_map list_bytes lists ++ rest) ≡ rest
+unfolding lists_behind
+behind_lists [] rest short = refl
+behind_lists (statuses ∷ lists) rest short =
+    ap₂ (λ n bytes. lists_behind (length lists) (numbers_behind n bytes)) (two_is (length statuses) short.0)
+    (append_assoc (flat_map u32 statuses) (flat_map list_bytes lists) rest)
+    ∙ ap (lists_behind (length lists)) (behind_numbers statuses (flat_map list_bytes lists ++ rest))
+    ∙ behind_lists lists rest short.1
+
+FitsHead : RowHead → Type 0
+FitsHead head = (head.accept < 65536) × (head.fronts < 4294967296) × (head.list < 65536)
+
+single_bytes : (cells : List ℕ) → AllByRecursion (λ cell. cell < 256) cells → flat_map (little_endian 1) cells ≡ cells
+single_bytes [] small = refl
+single_bytes (cell ∷ cells) small = ap₂ (λ c cs. c ∷ cs) (mod-eq_of_lt small.0) (single_bytes cells small.1)
+
+-- the first row is read, and then those behind it
+module _ (w : ℕ) where
+  rows_are : (rows : List RowHead) (cells rest : List ℕ) → length cells ≡ length rows * w → AllByRecursion FitsHead rows →
+      AllByRecursion (λ cell. cell < 256) cells →
+      (heads_in (length rows) w (row_bytes 1 w rows cells ++ rest) ≡ rows) × (cells_in (length rows) w (row_bytes 1 w rows cells ++ rest) ≡ cells)
+  unfolding heads_in cells_in FitsHead
+  rows_are [] cells rest whole fit small = (refl, sym (nil_from_length cells (omega (arith, whole))))
+  rows_are (head ∷ rows) cells rest whole fit small =
+      let further : List ℕ = row_bytes 1 w rows (drop w cells) in
+      let wide : length (take w cells) ≡ w = length-take-le w cells (omega (arith, whole)) in
+      let bytes : List ℕ = (flat_map (little_endian 1) (take w cells) ++ further) ++ rest in
+      let are : bytes ≡ take w cells ++ (further ++ rest) =
+      ap (λ cs. (cs ++ further) ++ rest) (single_bytes (take w cells) (all_take (λ cell. cell < 256) w cells small))
+      ∙ append_assoc (take w cells) further rest in
+      let own : take w bytes ≡ take w cells =
+      ap (take w) are ∙ take-append-le w (take w cells) (further ++ rest) (omega (arith, wide)) ∙ take_all w (take w cells) (omega (arith, wide)) in
+      let others : drop w bytes ≡ further ++ rest =
+      ap (drop w) are ∙ drop-append-le w (take w cells) (further ++ rest) (omega (arith, wide))
+      ∙ ap (λ cs. cs ++ (further ++ rest)) (drop_all w (take w cells) (omega (arith, wide))) in
+      let next = rows_are rows (drop w cells) rest (omega (arith, whole, length-drop w cells)) fit.1 (all_drop (λ cell. cell < 256) w cells small) in (
+        ap₂ (λ (r : RowHead) rs. r ∷ rs)
+            (λ i. record { accept = two_is head.accept fit.0.0 i; fronts = four_is head.fronts fit.0.1 i; list = two_is head.list fit.0.2 i })
+            (ap (heads_in (length rows) w) others ∙ next.0),
+        ap₂ (λ cs ds. cs ++ ds) own (ap (cells_in (length rows) w) others ∙ next.1) ∙ take-append-drop w cells,
+      )
+
+-- ---- the whole
+
+-- what the places of boundaries depend on
+pub record Parts : Type 0 where
+  pub categories : ℕ
+  pub ranges : List CategoryRange
+  pub rows : List RowHead
+  pub cells : List ℕ
+
+abbrev pub parts_of : Table → Parts
+parts_of table = record { categories = table.categories; ranges = table.ranges; rows = table.rows; cells = table.cells }
+
+-- the table with these parts
+abbrev pub with_parts : Table → Parts → Table
+with_parts table parts =
     record {
-      categories = categories;
-      slashes = at 18;
-      ranges = ranges_in ranges (drop 20 bytes);
-      lists = lists.read;
-      rows = heads_in rows categories lists.behind;
-      cells = cells_in rows categories lists.behind;
-      safe = drop (rows * (8 + categories)) lists.behind;
+      categories = parts.categories;
+      slashes = table.slashes;
+      ranges = parts.ranges;
+      lists = table.lists;
+      rows = parts.rows;
+      cells = parts.cells;
+      safe = table.safe;
     }
+
+-- by the counts, and the bytes behind these
+unfoldable pub parts_from : ℕ → ℕ → ℕ → ℕ → List ℕ → Parts
+parts_from categories ranges lists rows bytes =
+    let behind : List ℕ = lists_behind lists (ranges_behind ranges bytes) in
+    record { categories = categories; ranges = ranges_in ranges bytes; rows = heads_in rows categories behind; cells = cells_in rows categories behind }
+
+unfoldable pub parts_in : List ℕ → Parts
+parts_in bytes =
+    parts_from (two (get_or bytes 8 0) (get_or bytes 9 0))
+    (four (get_or bytes 10 0) (get_or bytes 11 0) (get_or bytes 12 0) (get_or bytes 13 0)) (two (get_or bytes 14 0) (get_or bytes 15 0))
+    (two (get_or bytes 16 0) (get_or bytes 17 0)) (drop 20 bytes)
+
+-- starts rise to the last code point, so there are no more ranges than code points
+count_from : (categories : ℕ) (range : CategoryRange) (ranges : List CategoryRange) → AreApart (range ∷ ranges) →
+    AllByRecursion (IsWithin categories) (range ∷ ranges) → range.start + length (range ∷ ranges) ≤ 0x11_0000
+count_from categories range [] apart within = omega (arith, within.0.0)
+count_from categories range (next ∷ ranges) apart within = omega (arith, apart.0, count_from categories next ranges apart.2 within.1)
+
+range_count : (categories : ℕ) (ranges : List CategoryRange) → AreApart ranges → AllByRecursion (IsWithin categories) ranges → length ranges < 4294967296
+range_count categories [] apart within = omega arith
+range_count categories (range ∷ ranges) apart within = omega (arith, count_from categories range ranges apart within)
+
+module _ (table : Table) (valid : IsValidTable table) where
+  in_order : (size : ℕ) → magic 2 ++ counts table ++ flat_map range_bytes table.ranges ++ flat_map list_bytes table.lists
+      ++ row_bytes size table.categories table.rows table.cells ++ table.safe
+      ≡ (magic 2 ++ counts table) ++ (flat_map range_bytes table.ranges ++ (flat_map list_bytes table.lists
+      ++ (row_bytes size table.categories table.rows table.cells ++ table.safe)))
+  in_order size =
+      let front : List ℕ = magic 2 ++ counts table in
+      let ranges : List ℕ = flat_map range_bytes table.ranges in
+      let lists : List ℕ = flat_map list_bytes table.lists in
+      let rows : List ℕ = row_bytes size table.categories table.rows table.cells in
+      append_assoc ((front ++ ranges) ++ lists) rows table.safe
+      ∙ append_assoc (front ++ ranges) lists (rows ++ table.safe)
+      ∙ append_assoc front ranges (lists ++ (rows ++ table.safe))
+
+  counted : (rest : List ℕ) → length table.ranges < 4294967296 → parts_in ((magic 2 ++ counts table) ++ rest)
+      ≡ parts_from table.categories (length table.ranges) (length table.lists) (length table.rows) rest
+  unfolding parts_in
+  counted rest few i =
+      parts_from (two_is table.categories (omega (arith, valid.ranges.few_categories)) i) (four_is (length table.ranges) few i)
+      (two_is (length table.lists) (omega (arith, valid.lists.few)) i) (two_is (length table.rows) (omega (arith, valid.rows.few)) i) rest
+
+  mask_small : (mask : ℕ) → mask < 2 ^ table.slashes → mask < 4294967296
+  mask_small mask below =
+      omega (arith, below, pow-le-pow_right {n = 2} (lit< tt) {i = table.slashes} {j = 32} valid.rows.few_slashes)
+
+  heads_fit : AllByRecursion FitsHead table.rows
+  unfolding FitsHead
+  heads_fit =
+      all_by_index FitsHead empty_head table.rows (λ i short.
+      let is = valid.rows.each i short in
+      (omega (arith, is.accept, valid.rows.few_slashes), mask_small (get_or table.rows i empty_head).fronts is.fronts, omega (arith, is.list, valid.lists.few)))
+
+  cells_small : length table.rows ≤ 255 → AllByRecursion (λ cell. cell < 256) table.cells
+  cells_small few =
+      all_by_index (λ cell. cell < 256) 0 table.cells (λ i short.
+      let some : 0 < table.categories = omega (arith, valid.ranges.some_categories) in
+      let row : i / table.categories < length table.rows =
+      div_below i table.categories (length table.rows) some (omega (arith, short, valid.well_formed.cells)) in
+      let next = (valid.rows.each (i / table.categories) row).next (i % table.categories) (mod_below i table.categories some) in
+      let cell : get_or table.cells (i / table.categories * table.categories + i % table.categories) 0 ≡ get_or table.cells i 0 =
+      ap (λ j. get_or table.cells j 0) (div-add-mod' i table.categories) in
+      omega (arith, next, cell, few))
+
+  from_parts : length table.rows ≤ 255 → AllByRecursion FitsRange table.ranges →
+      parts_from table.categories (length table.ranges) (length table.lists) (length table.rows)
+      (flat_map range_bytes table.ranges ++ (flat_map list_bytes table.lists ++ (row_bytes 1 table.categories table.rows table.cells ++ table.safe)))
+      ≡ parts_of table
+  unfolding parts_from
+  from_parts few fit =
+      let rows : List ℕ = row_bytes 1 table.categories table.rows table.cells ++ table.safe in
+      let lists : List ℕ = flat_map list_bytes table.lists ++ rows in
+      let behind = ap (lists_behind (length table.lists)) (behind_ranges table.ranges lists)
+      ∙ behind_lists table.lists rows (all_through IsValidList (λ statuses. length statuses < 65536) (λ statuses is. omega (arith, is.few)) table.lists valid.lists.each) in
+      let are = rows_are table.categories table.rows table.cells table.safe valid.well_formed.cells heads_fit (cells_small few) in
+      λ i. record {
+        categories = table.categories;
+        ranges = ranges_are table.ranges lists fit i;
+        rows = (ap (heads_in (length table.rows) table.categories) behind ∙ are.0) i;
+        cells = (ap (cells_in (length table.rows) table.categories) behind ∙ are.1) i;
+      }
+
+  ranges_fit : AllByRecursion FitsRange table.ranges
+  unfolding FitsRange
+  ranges_fit =
+      all_through (IsWithin table.categories) FitsRange (λ range within. (omega (arith, within.0), omega (arith, within.1, valid.ranges.few_categories)))
+      table.ranges valid.ranges.within
+
+  spelled_parts : length table.rows ≤ 255 → parts_in (spelling table) ≡ parts_of table
+  spelled_parts few =
+      let one : cell_size 2 (length table.rows) ≡ 1 = ap (λ b. cond b 1 2) (le-leb (length table.rows) 255 few) in
+      ap (λ size. parts_in (magic 2 ++ counts table ++ flat_map range_bytes table.ranges ++ flat_map list_bytes table.lists
+      ++ row_bytes size table.categories table.rows table.cells ++ table.safe)) one
+      ∙ ap parts_in (in_order 1)
+      ∙ counted (flat_map range_bytes table.ranges ++ (flat_map list_bytes table.lists
+      ++ (row_bytes 1 table.categories table.rows table.cells ++ table.safe))) (range_count table.categories table.ranges valid.ranges.apart valid.ranges.within)
+      ∙ from_parts few ranges_fit
+
+  -- the parts of a valid table are read back from each of its spellings in version 2, where it has at most 255 rows
+  pub parts_are : (bytes : List ℕ) → IsSpelling bytes table → get_or bytes 7 0 ≡ 2 → two (get_or bytes 16 0) (get_or bytes 17 0) ≤ 255 →
+      parts_in bytes ≡ parts_of table
+  parts_are bytes (inl is) second few =
+      let rows : two (get_or bytes 16 0) (get_or bytes 17 0) ≡ length table.rows =
+      ap (λ bs. two (get_or bs 16 0) (get_or bs 17 0)) is ∙ two_is (length table.rows) (omega (arith, valid.rows.few)) in
+      ap parts_in is ∙ spelled_parts (omega (arith, rows, few))
+  parts_are bytes (inr is) second few =
+      let first : get_or bytes 7 0 ≡ 1 = ap (λ bs. get_or bs 7 0) is.1 in
+      absurd (omega (arith, first, second))
