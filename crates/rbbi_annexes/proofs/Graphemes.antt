@@ -196,3 +196,8 @@ module _ (classes : List Class) (category : ℕ → ℕ) (fits : (c : ℕ) → I
         inside = λ before c behind before_are is behind_are.
             breaks_is before c behind ∙ sym (ap₂ (λ m class. breaks_by m.last m class) (seen_state before before_are) (fits c is));
       }
+
+-- `unfolding grapheme_tests` lets `refl` compute them for the table of graphemes
+unfoldable pub grapheme_tests : Unit {0}
+unfolding same_class same_last same_before links after_class breaks_by
+grapheme_tests = tt

@@ -3,6 +3,8 @@ pub mod Scans
 pub mod Agreement
 pub mod Checker
 pub mod Categories
+pub mod Reading
 pub mod Checked
 pub mod Graphemes
-pub mod Reading
+pub mod Computing
+pub mod Pieces

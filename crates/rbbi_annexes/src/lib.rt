@@ -1,9 +1,15 @@
-//! The boundaries of UAX #29: tables that give them.
+//! The boundaries of UAX #29: what it means that a table gives them, and how a table is shown to.
+//!
+//! The rules of the annex are those of the library `unicode_segmentation`. The function here
+//! carries no code: it states a law of the definitions as its contract.
 #![tactic(auto)]
 
-ghost use Rattle.std.specs.Prelude.{◌≡◌, ℕ};
+ghost use Rattle.std.specs.Prelude.{true};
+ghost use Rattle.unicode_segmentation.specs.Grapheme.{is_grapheme_break};
+ghost use Rattle.rbbi_annexes.specs.Breaks.{BreaksAreEnds};
 
-/// A law.
-pub fn law()
-    ensures { (n : ℕ) → n ≡ n }
+/// The places at which the annex breaks a text between grapheme clusters are its start and the
+/// ends of the clusters into which `unicode_segmentation` cuts it.
+pub fn breaks_are_the_ends_of_clusters()
+    ensures { BreaksAreEnds (is_grapheme_break true) }
 {}

@@ -7,8 +7,17 @@ mod line;
 mod sentence;
 mod word;
 
+ghost use Rattle.std.specs.Prelude.{true};
+ghost use Rattle.unicode_segmentation.specs.Grapheme.{is_grapheme_break};
+ghost use Rattle.rbbi_annexes.specs.Breaks.{SpellBreaksBy};
+
 /// The bytes of the table file for grapheme clusters (UAX #29).
-pub fn graphemes() -> &'static [u8] {
+///
+/// The boundaries of each text by a table that the bytes spell are exactly the places at which the
+/// annex breaks the text.
+pub fn graphemes() -> &'static [u8]
+    ensures breaks { SpellBreaksBy result.now (is_grapheme_break true) }
+{
     grapheme::GRAPHEME
 }
 
