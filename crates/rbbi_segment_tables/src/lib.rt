@@ -16,7 +16,7 @@ ghost use Rattle.rbbi_annexes.specs.Breaks.{SpellBreaksBy};
 /// The boundaries of each text by a table that the bytes spell are exactly the places at which the
 /// annex breaks the text.
 pub fn graphemes() -> &'static [u8]
-    ensures breaks { SpellBreaksBy result.now (is_grapheme_break true) }
+    ensures { SpellBreaksBy result.now (is_grapheme_break true) }
 {
     grapheme::GRAPHEME
 }

@@ -1,5 +1,5 @@
 use Rattle.rbbi_segment_tables.proofs.GraphemeTable.{graphemes_break}
 use Rattle.rbbi_segment_tables.proofs.graphemes.Goals as goal
 
-pub returns-clause-breaks : goal.returns-clause-breaks
-returns-clause-breaks c = graphemes_break
+pub returns : goal.returns
+returns c = graphemes_break
