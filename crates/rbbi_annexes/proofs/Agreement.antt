@@ -1,18 +1,18 @@
 -- Where the rows of a table agree with the monitor of a rule, the boundaries by the table are the places at which the rule breaks.
-use Rattle.std.proofs.Common.{◌≡◌, ℕ, zero, suc, ◌+◌, ◌-◌, ◌<◌, ◌≤◌, Bool, true, false, not, ◌||◌, cond, ltb, eqb, List, [], ◌∷◌, length, drop, get_or}
-use Rattle.std.proofs.Common.{sym, refl, ap, ◌∙◌, subst, ⊎_elim, arith, map}
-use Rattle.std.proofs.lemmas.Bool.{cases_Bool, cond-true, cond-false, cond_both, lt-ltb, le-ltb, true≢false, false≢true}
+use Rattle.std.proofs.Common.{◌≡◌, ℕ, zero, suc, ◌+◌, ◌<◌, ◌≤◌, Bool, true, false, not, ◌||◌, cond, ltb, eqb, List, [], ◌∷◌, length, drop}
+use Rattle.std.proofs.Common.{sym, refl, ap, ◌∙◌, subst, ⊎_elim, arith}
+use Rattle.std.proofs.lemmas.Bool.{cases_Bool, cond-true, cond-false, cond_both, lt-ltb, le-ltb, false≢true}
 use Rattle.std.proofs.lemmas.List.{drop_more, length-drop}
 use Rattle.unicode_segmentation.specs.Segments.{Rule}
 use Rattle.rbbi_model.specs.Words.{IsCharacter, IsText}
 use Rattle.rbbi_model.specs.Boundaries.{Boundary, start}
 use Rattle.rbbi_model.specs.Cover.{places}
 use Rattle.rbbi_model.specs.Tables.{Table, accept_of, category_of, step, completes}
-use Rattle.rbbi_model.specs.Searches.{next_boundary, follow_by, table_boundaries}
+use Rattle.rbbi_model.specs.Searches.{next_boundary, follow_by}
 use Rattle.rbbi_model.proofs.Found.{found_lies}
 use Rattle.rbbi_annexes.specs.Breaks.{breaks_from, BreaksBy}
 use Rattle.rbbi_annexes.proofs.Monitors.{Monitor, seen, coming, Tells}
-use Rattle.rbbi_annexes.proofs.Scans.{ended, scan, next_is}
+use Rattle.rbbi_annexes.proofs.Scans.{scan, next_is}
 
 -- the first place from `at` on at which the rule breaks, or else the text's end
 abbrev pub next_break : Rule → List ℕ → List ℕ → ℕ → ℕ

@@ -1,9 +1,9 @@
 -- A table that passes the tests breaks each text as its rule does.
-use Rattle.std.proofs.Common.{◌≡◌, ℕ, zero, suc, ◌<◌, Bool, true, false, ◌&&◌, List, [], ◌∷◌, cond, leb, eqb, get_or, sym, refl, ap, ◌∙◌, arith}
-use Rattle.std.proofs.lemmas.Bool.{and_parts, cases_Bool, leb-true, lt-leb}
+use Rattle.std.proofs.Common.{◌≡◌, ℕ, zero, suc, Bool, true, false, List, [], ◌∷◌, cond, leb, eqb, get_or, sym, refl, ap, ◌∙◌, arith}
+use Rattle.std.proofs.lemmas.Bool.{and_parts, leb-true, lt-leb}
 use Rattle.unicode_segmentation.specs.Segments.{Rule}
 use Rattle.rbbi_model.specs.Words.{IsCharacter}
-use Rattle.rbbi_model.specs.Tables.{Table, RowHead, CategoryRange, category_of, completes, empty_head}
+use Rattle.rbbi_model.specs.Tables.{Table, RowHead, CategoryRange, category_of, empty_head}
 use Rattle.rbbi_model.specs.ValidTables.{IsValidTable}
 use Rattle.ucd_table.proofs.Stepped.{Stepped}
 use Rattle.rbbi_annexes.specs.Breaks.{BreaksBy, SpellBreaksBy}

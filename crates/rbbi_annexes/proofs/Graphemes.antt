@@ -17,7 +17,7 @@ use Rattle.ucd_emoji.specs.Binary.{is_extended_pictographic}
 use Rattle.ucd_emoji.proofs.BinaryLemmas.{is_extended_pictographic_stepped}
 use Rattle.unicode_segmentation.specs.Grapheme.{break_by_pair, ends_in_linker, is_consonant, is_extend, is_zwj, is_regional, ends_in_pictograph, ends_in_half_flag, is_grapheme_break}
 use Rattle.rbbi_model.specs.Words.{IsCharacter, IsText}
-use Rattle.rbbi_annexes.proofs.Monitors.{Monitor, seen, coming, Tells}
+use Rattle.rbbi_annexes.proofs.Monitors.{Monitor, seen, Tells}
 
 -- what the rules read of a character
 pub record Class : Type 0 where

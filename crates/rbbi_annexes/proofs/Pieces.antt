@@ -1,5 +1,5 @@
 -- The places at which a rule breaks are the ends of the pieces into which the kit cuts the text.
-use Rattle.std.proofs.Common.{◌≡◌, ℕ, ◌+◌, Bool, true, false, cond, List, [], ◌∷◌, ◌++◌, length, append-nil, refl, ap, sym, ◌∙◌, ⊎_elim, arith}
+use Rattle.std.proofs.Common.{◌≡◌, ℕ, ◌+◌, true, cond, List, [], ◌∷◌, length, append-nil, refl, ap, sym, ◌∙◌, ⊎_elim, arith}
 use Rattle.std.proofs.lemmas.Bool.{cases_Bool, cond-true, cond-false}
 use Rattle.unicode_segmentation.specs.Segments.{Rule, prepend, cut}
 use Rattle.unicode_segmentation.specs.Grapheme.{is_grapheme_break}

@@ -1,6 +1,6 @@
 -- Reading a table back from its spelling, as far as the places of boundaries depend on it.
-use Rattle.std.proofs.Common.{◌≡◌, ℕ, zero, suc, ◌+◌, ◌*◌, ◌/◌, ◌%◌, ◌<◌, ◌≤◌, cond, List, [], ◌∷◌, ◌++◌, length, get_or, take, drop, refl, ap, ap₂, sym, ◌∙◌, subst, arith}
-use Rattle.std.proofs.Common.{append_assoc, mod-eq_of_lt, div-add-mod', ◌^◌, ◌⊎◌, inl, inr, lit<}
+use Rattle.std.proofs.Common.{◌≡◌, ℕ, zero, suc, ◌+◌, ◌*◌, ◌/◌, ◌%◌, ◌<◌, ◌≤◌, cond, List, [], ◌∷◌, ◌++◌, length, get_or, take, drop, refl, ap, ap₂, sym, ◌∙◌, arith}
+use Rattle.std.proofs.Common.{append_assoc, mod-eq_of_lt, div-add-mod', ◌^◌, inl, inr, lit<}
 use Rattle.std.specs.List.{AllByRecursion, flat_map}
 use Rattle.std.proofs.Math.Nat.{pow-le-pow_right}
 use Rattle.std.proofs.lemmas.Bool.{le-leb}
@@ -8,7 +8,7 @@ use Rattle.std.proofs.lemmas.Nat.{div_below, mod_below}
 use Rattle.std.proofs.lemmas.List.{take-append-drop, take-append-le, drop-append-le, length-take-le, length-drop, nil_from_length, take_all, drop_all}
 use Rattle.rbbi_model.specs.Tables.{Table, CategoryRange, RowHead, empty_head}
 use Rattle.rbbi_model.specs.ValidTables.{AreApart, IsWithin, IsValidList, IsValidTable}
-use Rattle.rbbi_model.specs.TableFile.{little_endian, u16, u32, magic, counts, cell_size, range_bytes, list_bytes, head_bytes, row_bytes, file_bytes, spelling, IsSpelling}
+use Rattle.rbbi_model.specs.TableFile.{little_endian, u32, magic, counts, cell_size, range_bytes, list_bytes, row_bytes, spelling, IsSpelling}
 use Rattle.rbbi_model.proofs.Lists.{all_by_index, all_drop, all_take, all_through}
 
 -- a number in two bytes, and in four, the one of least value first

@@ -1,12 +1,12 @@
 -- A search in a table without look-ahead rules, as one pass over the characters behind its start.
-use Rattle.std.proofs.Common.{◌≡◌, ◌≢◌, ℕ, zero, suc, ◌+◌, ◌-◌, ◌<◌, ◌≤◌, Bool, true, false, cond, ◌&&◌, ltb, eqb, List, [], ◌∷◌, Option, Some, None, length}
-use Rattle.std.proofs.Common.{drop, take, get_or, map, sym, refl, ap, ap₂, ◌∙◌, subst, ⊎_elim, arith, add-one, le_refl}
+use Rattle.std.proofs.Common.{◌≡◌, ℕ, zero, suc, ◌+◌, ◌-◌, ◌<◌, ◌≤◌, Bool, true, false, cond, ◌&&◌, ltb, eqb, List, [], ◌∷◌, Option, Some, None, length}
+use Rattle.std.proofs.Common.{drop, take, get_or, map, sym, refl, ap, ap₂, ◌∙◌, ⊎_elim, arith, add-one, le_refl}
 use Rattle.std.specs.Prelude.{unwrap_or}
-use Rattle.std.proofs.lemmas.Bool.{cases_Bool, cond-true, cond-false, cond_both, and_left, lt-ltb, le-ltb, eq-eqb, eqb-true, eqb-false, or_left, or_from, ne_eqb}
+use Rattle.std.proofs.lemmas.Bool.{cases_Bool, cond-true, cond-false, and_left, lt-ltb, le-ltb, eq-eqb, eqb-true, or_left, or_from}
 use Rattle.std.proofs.lemmas.List.{drop_more, length-drop}
 use Rattle.rbbi_model.specs.Places.{least_from, greatest_below}
 use Rattle.rbbi_model.specs.Tables.{Table, accept_of, list_of, category_of, step, row_along, completes, stops}
-use Rattle.rbbi_model.specs.Searches.{Found, row_at, search_end, longest_place, found_longest, cut_place, found, next_boundary}
+use Rattle.rbbi_model.specs.Searches.{Found, row_at, search_end, longest_place, found_longest, cut_place, next_boundary}
 use Rattle.rbbi_model.proofs.FoundCases.{row_goes_on}
 
 -- the place q if a rule ends at the row, or else the last place at which one did
