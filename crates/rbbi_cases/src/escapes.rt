@@ -1,0 +1,118 @@
+//! The bytes that a text of a case file stands for, by its escapes.
+use crate::error::CaseErr;
+use rbbi_text::{append, decimal, hexadecimal};
+use std::alloc::Global;
+
+/// The text before the first of this byte, and the text behind it.
+pub(crate) fn split_once(text: &[u8], byte: u8) -> Option<(&[u8], &[u8])> {
+    for (at, found) in text.iter().enumerate() {
+        if *found == byte {
+            return Some((&text[..at], &text[at + 1..]));
+        }
+    }
+    None
+}
+
+/// The bytes of a text in which `%HH` is a byte, `%{H..}` a character, `%{H....H..}` all characters
+/// from the first to the last, and `%{N*TEXT}` the text so many times.
+pub(crate) fn unescaped(alloc: Global, text: &[u8]) -> Result<Vec<u8>, CaseErr> {
+    let mut bytes = Vec::new(alloc);
+    let mut rest = text;
+    for _ in 0..text.len() {
+        let Some((before, behind)) = split_once(rest, b'%') else {
+            break;
+        };
+        append(before, &mut bytes)?;
+        rest = match behind.split_first() {
+            Some((b'{', braced)) => push_braced(alloc, braced, &mut bytes)?,
+            _ => push_byte(behind, &mut bytes)?,
+        };
+    }
+    append(rest, &mut bytes)?;
+    Ok(bytes)
+}
+
+/// The string of a text with escapes.
+pub(crate) fn unescaped_string(alloc: Global, text: &[u8]) -> Result<String, CaseErr> {
+    let bytes = unescaped(alloc, text)?;
+    let text = str::from_utf8(bytes.as_slice())?;
+    Ok(String::from_str(alloc, text)?)
+}
+
+/// Appends the byte of two hexadecimal digits, and gives what stands behind them.
+fn push_byte<'a>(behind: &'a [u8], bytes: &mut Vec<u8>) -> Result<&'a [u8], CaseErr> {
+    if behind.len() < 2 {
+        return Err(CaseErr::Wrong("no escape behind %"));
+    }
+    let Some(byte) = hexadecimal(&behind[..2], 2, 2, 255) else {
+        return Err(CaseErr::Wrong("no escape behind %"));
+    };
+    bytes.push(byte as u8)?;
+    Ok(&behind[2..])
+}
+
+/// Appends what an escape in braces stands for, and gives what stands behind it.
+fn push_braced<'a>(
+    alloc: Global,
+    behind: &'a [u8],
+    bytes: &mut Vec<u8>,
+) -> Result<&'a [u8], CaseErr> {
+    let Some((inner, rest)) = split_once(behind, b'}') else {
+        return Err(CaseErr::Wrong("no } behind %{"));
+    };
+    match split_once(inner, b'*') {
+        Some((times, piece)) => push_times(alloc, times, piece, bytes)?,
+        None => push_characters(alloc, inner, bytes)?,
+    }
+    Ok(rest)
+}
+
+/// Appends the piece so many times. It may have escapes of bytes.
+fn push_times(
+    alloc: Global,
+    times: &[u8],
+    piece: &[u8],
+    bytes: &mut Vec<u8>,
+) -> Result<(), CaseErr> {
+    let Some(times) = decimal(times, 999_999_999) else {
+        return Err(CaseErr::Wrong("a number is wanted"));
+    };
+    let mut one = Vec::new(alloc);
+    let mut rest = piece;
+    for _ in 0..piece.len() {
+        let Some((before, behind)) = split_once(rest, b'%') else {
+            break;
+        };
+        append(before, &mut one)?;
+        rest = push_byte(behind, &mut one)?;
+    }
+    append(rest, &mut one)?;
+    for _ in 0..times {
+        append(one.as_slice(), bytes)?;
+    }
+    Ok(())
+}
+
+/// Appends the character of hexadecimal digits, or those from the first to the last.
+fn push_characters(alloc: Global, digits: &[u8], bytes: &mut Vec<u8>) -> Result<(), CaseErr> {
+    let (first, last) = match split_once(digits, b'.') {
+        Some((first, [b'.', last @ ..])) => (first, last),
+        Some(_) => return Err(CaseErr::Wrong("an escape of no character")),
+        None => (digits, digits),
+    };
+    let Some(first) = hexadecimal(first, 1, 6, 0x10_FFFF) else {
+        return Err(CaseErr::Wrong("an escape of no character"));
+    };
+    let Some(last) = hexadecimal(last, 1, 6, 0x10_FFFF) else {
+        return Err(CaseErr::Wrong("an escape of no character"));
+    };
+    let mut characters = String::new(alloc);
+    for code in first..=last {
+        let Some(character) = char::from_u32(code) else {
+            return Err(CaseErr::Wrong("an escape of no character"));
+        };
+        characters.push(character)?;
+    }
+    append(characters.as_bytes(), bytes)?;
+    Ok(())
+}
