@@ -86,10 +86,11 @@ impl Entry {
     }
 
     /// What the entry says.
-    pub(crate) fn read(self, alloc: Global) -> Result<Setting, CaseErr> {
-        match self.name {
-            Some(name) => of_name(alloc, self.key.as_str(), name, self.text.as_slice()),
-            None => of_text(alloc, self.key.as_str(), self.text.as_slice()),
+    pub(crate) fn read(&self, alloc: Global) -> Result<Setting, CaseErr> {
+        let key = self.key.as_str();
+        match &self.name {
+            Some(name) => of_name(alloc, key, name.clone()?, self.text.as_slice()),
+            None => of_text(alloc, key, self.text.as_slice()),
         }
     }
 }
