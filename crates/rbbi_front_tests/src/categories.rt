@@ -3,7 +3,7 @@ ghost use Rattle.std.specs.Prelude.{◌<◌, length};
 
 use crate::resolved::rules_in;
 use rbbi_cats::{CatRange, Categories, CatsErr, partition};
-use std::alloc::{AllocError, Global};
+use std::alloc::Global;
 use std::process::Abort;
 use std::test::Fail;
 
@@ -132,34 +132,6 @@ fn look_ups(rt: HostRuntime) -> Result<(), Fail> {
     for row in &LOOK_UPS {
         let (text, wanted) = *row;
         are_found(&rt, rt.alloc(), text, wanted)?;
-    }
-    Ok(())
-}
-
-/// A rule of so many different characters, each a literal.
-fn literals(alloc: Global, count: u32) -> Result<String, AllocError> {
-    let mut text = String::new(alloc);
-    for k in 0..count {
-        if let Some(c) = char::from_u32(0x4E00 + k % 2000) {
-            text.push(c)?;
-        }
-    }
-    text.push(';')?;
-    Ok(text)
-}
-
-#[test]
-fn most_categories(rt: HostRuntime) -> Result<(), Fail> {
-    for (count, wanted) in [(999, Some(1000)), (1000, None)] {
-        let text = literals(rt.alloc(), count)?;
-        assert!(rt; text.len() < 10_000);
-        match categories_in(rt.alloc(), text.as_str())? {
-            Ok(cats) => assert_eq!(rt; Some(cats.count()), wanted),
-            Err(fault) => {
-                assert_eq!(rt; fault.label(), "TooManyCategories");
-                assert_eq!(rt; wanted, None);
-            }
-        }
     }
     Ok(())
 }

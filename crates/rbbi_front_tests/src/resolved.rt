@@ -5,32 +5,20 @@ ghost use Rattle.rbbi_resolve.specs.RuleLists.{rules_of};
 
 use rbbi_lex::lex;
 use rbbi_props::PropTable;
-use rbbi_resolve::{ResolveErr, Rules, resolve};
+use rbbi_resolve::{Rules, resolve};
 use rbbi_text::count_characters;
 use rbbi_tree::parse;
 use std::alloc::Global;
 use std::test::Fail;
-
-/// The rules of a text by a table of properties, or their fault.
-pub(crate) fn resolved(
-    alloc: Global,
-    text: &str,
-    props: &PropTable,
-    ignore_dictionary: bool,
-) -> Result<Result<Rules, ResolveErr>, Fail>
-    requires { length text.now ≤ 1000000 }
-    ensures { IfOk result (λ found. IfOk found (λ rules. AreLawful (rules_of rules))) }
-{
-    let end = count_characters(text);
-    let tokens = lex(alloc, text)?;
-    let statements = parse(alloc, &tokens, end)?;
-    Ok(resolve(alloc, &statements, end, props, ignore_dictionary))
-}
 
 /// The rules of a text that has no fault.
 pub(crate) fn rules_in(alloc: Global, text: &str) -> Result<Rules, Fail>
     requires { length text.now ≤ 1000000 }
     ensures { IfOk result (λ rules. AreLawful (rules_of rules)) }
 {
-    Ok(resolved(alloc, text, &PropTable::new(alloc), false)??)
+    let end = count_characters(text);
+    let tokens = lex(alloc, text)?;
+    let statements = parse(alloc, &tokens, end)?;
+    let props = PropTable::new(alloc);
+    Ok(resolve(alloc, &statements, end, &props, false)?)
 }
