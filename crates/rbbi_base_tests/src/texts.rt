@@ -104,31 +104,6 @@ fn edits(rt: HostRuntime) -> Result<(), Fail> {
     Ok(())
 }
 
-/// A byte that begins no character, a character cut short, one written too long, a surrogate, and
-/// a number past the last code point, each with its place.
-const BYTES_THAT_ARE_NO_TEXT: [(&[u8], u32); 6] = [
-    (b"a\xff", 1),
-    (b"\xe2\x82", 0),
-    (b"ab\xc0\xaf", 2),
-    (b"\xc3\xa9\xed\xa0\x80", 2),
-    (b"abc\xf4\x90\x80\x80", 3),
-    (b"\x80", 0),
-];
-
-#[test]
-fn bytes_that_are_no_text(rt: HostRuntime) -> Result<(), Fail> {
-    let alloc = rt.alloc();
-    for row in &BYTES_THAT_ARE_NO_TEXT {
-        let (bytes, place) = *row;
-        let raw = raw_of(alloc, bytes)?;
-        match PlainText::from_raw(alloc, &raw) {
-            Err(RawErr::NotUtf8(at)) => assert_eq!(rt; at, place),
-            _ => assert!(rt; false, "{bytes:?} is no text"),
-        }
-    }
-    Ok(())
-}
-
 #[test]
 fn words(rt: HostRuntime) -> Result<(), Fail> {
     let alloc = rt.alloc();
@@ -289,18 +264,6 @@ fn longest_plain_text(rt: HostRuntime) -> Result<(), Fail> {
     assert_eq!(rt; edited(&mut text, 16_777_216, 0, "a"), "TooLong");
     assert_eq!(rt; text.len(), 16_777_216);
     assert!(rt; is_all::<PlainText, Brand>(&rt, &text, 'a', Blank::new(1)));
-    assert_eq!(rt; edited(&mut text, 0, 1, "b"), "Ok");
-    assert_eq!(rt; text.len(), 16_777_216);
-    Ok(())
-}
-
-#[test]
-fn longest_text_by_pieces(rt: HostRuntime) -> Result<(), Fail> {
-    let letters = letters(rt.alloc(), 0)?;
-    let mut text = Pieces::new(rt.alloc(), &letters)?;
-    assert_eq!(rt; edited(&mut text, 16_777_216, 0, "a"), "TooLong");
-    assert_eq!(rt; text.len(), 16_777_216);
-    assert!(rt; is_all::<Pieces, Brand>(&rt, &text, 'a', Blank::new(1)));
     assert_eq!(rt; edited(&mut text, 0, 1, "b"), "Ok");
     assert_eq!(rt; text.len(), 16_777_216);
     Ok(())

@@ -1,4 +1,4 @@
-//! Tests of tables, table files and scripts, by public calls: nothing but tests.
+//! Tests of tables, their differences and replies, by public calls: nothing but tests.
 //!
 //! A crate with tests of its own is proved twice, so those of these crates stand here.
 #![tactic(auto)]
@@ -10,8 +10,4 @@ mod samples;
 #[cfg(test)]
 mod scripts;
 #[cfg(test)]
-mod table_files;
-#[cfg(test)]
 mod tables;
-#[cfg(test)]
-mod test_files;
