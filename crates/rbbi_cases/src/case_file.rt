@@ -4,7 +4,7 @@ use crate::setting::{Entry, Setting};
 use std::alloc::Global;
 
 /// A case: the line of its name, from 1, its name, and what the lines behind it say.
-#[derive(Debug, Drop)]
+#[derive(Drop)]
 pub(crate) struct Case {
     pub(crate) line: usize,
     pub(crate) name: String,
@@ -12,7 +12,7 @@ pub(crate) struct Case {
 }
 
 /// The cases of a file, and what holds for each case that doesn't say otherwise.
-#[derive(Debug, Drop)]
+#[derive(Drop)]
 pub(crate) struct CaseFile {
     alloc: Global,
     pub(crate) for_all: Vec<Setting>,

@@ -3,7 +3,7 @@ use std::alloc::{AllocError, AllocFailed};
 use std::str::Utf8Error;
 
 /// Why a case file is refused.
-#[derive(Debug, Drop)]
+#[derive(Drop)]
 pub(crate) enum CaseErr {
     /// A line isn't of the form, for this reason.
     Wrong(&'static str),

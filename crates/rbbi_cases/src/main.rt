@@ -16,7 +16,7 @@ use std::io;
 use std::process::ExitCode;
 
 /// How many cases passed and failed.
-#[derive(Debug, Drop)]
+#[derive(Drop)]
 struct Counts {
     passed: u64,
     failed: u64,

@@ -10,7 +10,7 @@ use std::marker::Brand;
 use std::sync::ledger::{Blank, Ledger};
 
 /// A run over files and an output in memory.
-#[derive(Debug, Drop)]
+#[derive(Drop)]
 pub(crate) struct Run {
     alloc: Global,
     words: Vec<String>,

@@ -5,7 +5,7 @@ use rbbi_text::decimal;
 use std::alloc::Global;
 
 /// What a line says, alone or with the lines that go on with it.
-#[derive(Debug, Drop)]
+#[derive(Drop)]
 pub(crate) enum Setting {
     /// The words of the command line.
     Args(Vec<String>),
@@ -36,7 +36,7 @@ pub(crate) enum Setting {
 }
 
 /// A line and those that go on with it: the key, the name of a file, and the text.
-#[derive(Debug, Drop)]
+#[derive(Drop)]
 pub(crate) struct Entry {
     /// All before the colon.
     pub(crate) head: String,
