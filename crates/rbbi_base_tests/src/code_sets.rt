@@ -33,6 +33,7 @@ fn operations(rt: HostRuntime) -> Result<(), Fail> {
     let outside = [(11, 29), (32, LAST)];
     assert!(rt; is_list(&left.complement(alloc)?, &outside));
     assert!(rt; left.has(10) && !left.has(11) && left.holds_character());
+    assert!(rt; !set_of(alloc, &[(0xD800, 0xDFFF)])?.holds_character());
     Ok(())
 }
 
@@ -43,6 +44,8 @@ fn firsts_and_copies(rt: HostRuntime) -> Result<(), Fail> {
     let set = set_of(rt.alloc(), PAIRS)?;
     assert_eq!(rt; set.first(), Some(0x41));
     assert!(rt; is_list(&set.clone()?, PAIRS));
+    let all = CodeSet::range(rt.alloc(), 0, LAST)?;
+    assert!(rt; is_list(&all, &[(0, LAST)]));
     let empty = CodeSet::empty(rt.alloc());
     assert_eq!(rt; empty.first(), None);
     members_determine();

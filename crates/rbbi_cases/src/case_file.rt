@@ -69,7 +69,7 @@ impl CaseFile {
         let Some((line, entry)) = self.last.take() else {
             return Ok(());
         };
-        if entry.key.as_str() == "case" && entry.name.is_none() {
+        if entry.key.as_str() == "case" && entry.name.is_none() && !entry.text.is_empty() {
             let name = str::from_utf8(entry.text.as_slice())?;
             self.cases.push(Case {
                 line,

@@ -1,6 +1,4 @@
 //! The tokens of one text with each kind of token.
-ghost use Rattle.std.specs.Prelude.{◌≤◌, length};
-
 use rbbi_lex::{LexErr, TokenKind, lex};
 use std::test::Fail;
 
