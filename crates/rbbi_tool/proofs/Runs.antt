@@ -90,7 +90,7 @@ module _ (words : List (List ℕ)) (contents : Option (List ℕ → List ℕ)) (
       let Refuses = λ (i : Inputs). (command_stage request.command request i).refuses r in
       fault_ends r (command_fault request.command request inputs r refuses)
       (all_told contents (Holds Refuses) (λ held. (run_stage words held).refuses r) (over sources inputs Refuses same read refuses)
-      (λ held (short, refuses). inr (request, asks, inr (tt, short, refuses))) stays))
+      (λ held (short, refuses). inr (request, asks, inr (tt, short, refuses)))) stays)
       met
 
 -- the files are read in the order of the one request that the words ask for

@@ -62,7 +62,9 @@ returns-in_err-request-clause-calls g c =
     rw (told.1, told.2) (asked_nothing g.F.Files.read_gives _ _)
 
 pub returns-in_default-clause-calls : goal.returns-in_default-clause-calls
-returns-in_default-clause-calls g c = asked_no_form g.F.Files.read_gives _ _ c.in_ok-request.ensures
+returns-in_default-clause-calls g c =
+    let none = rw c.in_default.is at c.in_ok-request.ensures in
+    asked_no_form g.F.Files.read_gives _ _ none
 
 pub returns-in_err-sources-clause-calls : goal.returns-in_err-sources-clause-calls
 returns-in_err-sources-clause-calls g c =
@@ -80,5 +82,5 @@ pub returns-clause-calls : goal.returns-clause-calls
 returns-clause-calls g c =
     let asks = rw c.in-Some.is at c.in_ok-request.ensures in
     reads_asked g.F.Files.read_gives _ _ asks c.deref.result.now (c.deref.ensures.value ∙ c.in_ok-sources.ensures) _ _ (answer_of c.prepare.result)
-    (reads_before g.F.Files.read_gives c.deref.result.now _ _ _ (inputs_in c.in_ok-inputs.inputs) (answer_of c.prepare.result)
+    (reads_before g.F.Files.read_gives c.deref.result.now _ _ (asked_by c.in-Some.request) (inputs_in c.in_ok-inputs.inputs) (answer_of c.prepare.result)
     c.in_ok-inputs.ensures.calls c.prepare.ensures.exact)

@@ -10,7 +10,7 @@ pub returns-clause-ok : goal.returns-clause-ok
 returns-clause-ok g c =
     subst (λ told. OnOk c.put_told_replies.result
     (Takes (g.K.Sink.taken c.args.out.now) (g.K.Sink.taken c.put_told_replies.new.out) (all_reply_lines told)))
-    (opened_replies _ _ _ _ _ c.open-session-2.ensures.opened refl c.args.table.now
+    (opened_replies _ _ _ _ _ c.open-session.ensures.opened refl c.args.table.now
     c.in_ok-session.ensures.table_is c.args.text (ap (λ s. s.text) c.in_ok-session.ensures.state_is) (map meaning c.args.commands.now))
     c.put_told_replies.ensures.ok
 
@@ -18,6 +18,6 @@ pub returns-clause-err : goal.returns-clause-err
 returns-clause-err g c =
     subst (λ told. OnErr c.put_told_replies.result
     (TakesFront (g.K.Sink.taken c.args.out.now) (g.K.Sink.taken c.put_told_replies.new.out) (all_reply_lines told)))
-    (opened_replies _ _ _ _ _ c.open-session-2.ensures.opened refl c.args.table.now
+    (opened_replies _ _ _ _ _ c.open-session.ensures.opened refl c.args.table.now
     c.in_ok-session.ensures.table_is c.args.text (ap (λ s. s.text) c.in_ok-session.ensures.state_is) (map meaning c.args.commands.now))
     c.put_told_replies.ensures.err

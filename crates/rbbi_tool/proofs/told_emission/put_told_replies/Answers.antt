@@ -45,7 +45,7 @@ returns-in_err-put_when_full-clause-err g c =
     let within : c.loop-i.i < length c.args.commands.now = omega (arith, c.loop-i-test.true, c.len-i-end.ensures) in
     let replied = replied_more _ _ _ _ _ _ _ _ (meaning c.get.result.now) (map meaning (drop (i + 1) commands))
     (next_left _ _ _ _ _ _ _ _ _ _ (mapped_left meaning commands i c.get.result.now within c.get.ensures) c.loop-i.invariant.replied)
-    (g.S.Performing.session c.perform.new.session) c.perform.new.steps _ c.in_ok-perform.ensures.replies c.perform.ensures.cost in
+    (g.S.Performing.session c.perform.new.self) c.perform.new.steps _ c.in_ok-perform.ensures.replies c.perform.ensures.cost in
     rw told.1 (put_refused _ _ _ _ _ replied.put _ c.in_err-put_when_full.ensures.err)
 
 pub returns-in_err-perform-clause-steps : goal.returns-in_err-perform-clause-steps
