@@ -6,5 +6,6 @@ pub mod Categories
 pub mod Reading
 pub mod Checked
 pub mod Graphemes
+pub mod Words
 pub mod Computing
 pub mod Pieces

@@ -1,1 +1,2 @@
 pub mod GraphemeTable
+pub mod WordTable
