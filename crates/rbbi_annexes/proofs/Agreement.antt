@@ -22,7 +22,8 @@ next_break rule before (c ∷ behind) at = cond (rule before (c ∷ behind)) at 
 -- What must hold of the rows that searches reach. `Used` holds of the category of each character, and `Seen` of each state of the monitor. `In row m p settled` holds where a
 -- search reaches the row when the monitor is in state m and p is the number of what comes: if settled, the last end of a rule
 -- is the first break, and else the rule didn't break so far.
-pub record Agree {S : Type 0} (table : Table) (monitor : Monitor S) (kinds : ℕ) (Used : ℕ → Type 0) (Seen : S → Type 0) (In : ℕ → S → ℕ → Bool → Type 0) : Type 0 where
+pub record Agree {S : Type 0} (table : Table) (monitor : Monitor S) (kinds : ℕ) (Used : ℕ → Type 0) (Seen : S → Type 0) (In : ℕ → S → ℕ → Bool →
+    Type 0) : Type 0 where
   pub first : Seen monitor.start
   pub more : (m : S) (k : ℕ) → Used k → Seen m → Seen (monitor.next m k)
   pub nothing : monitor.nothing < kinds
@@ -104,7 +105,8 @@ module _ {S : Type 0} (table : Table) (monitor : Monitor S) (kinds : ℕ) (Used 
     next_at : (s c : ℕ) (behind before : List ℕ) → IsText (c ∷ behind) → IsText before → drop s x ≡ c ∷ behind → rule before (c ∷ behind) ≡ true →
         (next_boundary table x s).at ≡ next_break rule (c ∷ before) behind (s + 1)
     next_at s c behind before behind_are before_are rest breaks =
-        let begin = agree.begins (seen monitor (category_of table.ranges) before) (category_of table.ranges c) (coming monitor (category_of table.ranges) behind)
+        let begin = agree.begins (seen monitor (category_of table.ranges) before) (category_of table.ranges c) (coming monitor
+        (category_of table.ranges) behind)
         (used c behind_are.0) (coming_within behind behind_are.1) (seen_is before before_are)
         (sym (tells.inside before c behind before_are behind_are.0 behind_are.1) ∙ breaks) in
         next_is table plain dead x s c behind rest (beyond x s c behind rest).0 begin.0
@@ -113,9 +115,11 @@ module _ {S : Type 0} (table : Table) (monitor : Monitor S) (kinds : ℕ) (Used 
     -- the breaks from a place on are those from the first of them on
     IsFrom : List ℕ → ℕ → Type 0
     IsFrom breaks e =
-        (before behind : List ℕ) × IsText behind × IsText before × (drop e x ≡ behind) × (rule before behind ≡ true) × (breaks ≡ breaks_from rule before behind e)
+        (before behind : List ℕ) × IsText behind × IsText before × (drop e x ≡ behind) × (rule before behind ≡ true) ×
+        (breaks ≡ breaks_from rule before behind e)
 
-    from_next : (behind before : List ℕ) (at : ℕ) → IsText behind → IsText before → drop at x ≡ behind → IsFrom (breaks_from rule before behind at) (next_break rule before behind at)
+    from_next : (behind before : List ℕ) (at : ℕ) → IsText behind → IsText before → drop at x ≡ behind →
+        IsFrom (breaks_from rule before behind at) (next_break rule before behind at)
     unfolding IsFrom
     from_next [] before at behind_are before_are rest = (before, [], behind_are, before_are, rest, tells.end before, refl)
     from_next (c ∷ behind) before at behind_are before_are rest =
@@ -126,7 +130,8 @@ module _ {S : Type 0} (table : Table) (monitor : Monitor S) (kinds : ℕ) (Used 
         let next = from_next behind (c ∷ before) (at + 1) behind_are.1 (behind_are.0, before_are) (beyond x at c behind rest).1 in
         (next.0, next.1, next.2, next.3, next.4, next.5, cond-false (rule before (c ∷ behind)) (at ∷ further) further joins ∙ next.6))
 
-    follow_breaks : (most : ℕ) (before behind : List ℕ) (last : Boundary) → IsText behind → IsText before → drop last.at x ≡ behind → length x ≤ last.at + most →
+    follow_breaks : (most : ℕ) (before behind : List ℕ) (last : Boundary) → IsText behind → IsText before → drop last.at x ≡ behind →
+        length x ≤ last.at + most →
         rule before behind ≡ true → places (last ∷ follow_by (next_boundary table x) (length x) most last) ≡ breaks_from rule before behind last.at
     unfolding IsFrom
     follow_breaks zero before [] last behind_are before_are rest near breaks = sym (cond-true (rule before []) (last.at ∷ []) [] breaks)
@@ -144,7 +149,11 @@ module _ {S : Type 0} (table : Table) (monitor : Monitor S) (kinds : ℕ) (Used 
         let from = subst (IsFrom further) (sym is) (from_next behind (c ∷ before) (last.at + 1) behind_are.1 (behind_are.0, before_are) past.1) in
         ap (λ bs. places (last ∷ bs)) (cond-true (ltb last.at (length x)) (next ∷ follow_by (next_boundary table x) (length x) most next) []
         (lt-ltb last.at (length x) past.0))
-        ∙ ap (λ ps. last.at ∷ ps) (follow_breaks most from.0 from.1 next from.2 from.3 from.4 (omega (arith, near, (found_lies table x last.at past.0).0)) from.5 ∙ sym from.6)
+        ∙ ap (λ ps. last.at ∷ ps) (follow_breaks most from.0 from.1 next from.2 from.3 from.4 (omega (
+          arith,
+          near,
+          (found_lies table x last.at past.0).0,
+        )) from.5 ∙ sym from.6)
         ∙ sym (cond-true (rule before (c ∷ behind)) (last.at ∷ further) further breaks)
 
   pub agreement : ((row : ℕ) → completes table row ≡ false) → accept_of table 0 ≡ 0 → BreaksBy table rule

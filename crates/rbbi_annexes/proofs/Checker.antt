@@ -228,7 +228,8 @@ module _ {S : Type 0} (same : S → S → Bool) where
           let cells = cells_of entry.row in
           let accepts = eqb (accept_of table entry.row) 1 in
           end_passes accepts (get_or entry.marks monitor.nothing None)
-          && all_used (λ k. all_below (λ p. permitted accepts entry.state k p (get_or entry.marks (monitor.ahead k p) None)) kinds && goes_at entry accepts cells k)
+          && all_used (λ k. all_below (λ p. permitted accepts entry.state k p (get_or entry.marks
+          (monitor.ahead k p) None)) kinds && goes_at entry accepts cells k)
 
       unfoldable pub passes : Bool
       passes = member same monitor.start states && (numbers_pass && (each state_passes states && each entry_passes entries))

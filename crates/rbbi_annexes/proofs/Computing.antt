@@ -1,6 +1,8 @@
 -- One name to unfold where the kernel computes the tests of a table.
-use Rattle.rbbi_annexes.proofs.Checker.{values, each, member, explore, joined, same_mark, same_marks, some_open, same_entry, all_used, over_used, marked, permitted}
-use Rattle.rbbi_annexes.proofs.Checker.{after_entry, entries_from, starts, states_found, entries_found, numbers_pass, begins_at, state_passes, end_passes, goes_at}
+use Rattle.rbbi_annexes.proofs.Checker.{values, each, member, explore, joined, same_mark, same_marks, some_open, same_entry, all_used, over_used, marked}
+use Rattle.rbbi_annexes.proofs.Checker.{permitted}
+use Rattle.rbbi_annexes.proofs.Checker.{after_entry, entries_from, starts, states_found, entries_found, numbers_pass, begins_at, state_passes, end_passes}
+use Rattle.rbbi_annexes.proofs.Checker.{goes_at}
 use Rattle.rbbi_annexes.proofs.Checker.{entry_passes, passes}
 use Rattle.rbbi_annexes.proofs.Categories.{steps_of, last_of}
 use Rattle.rbbi_annexes.proofs.Checked.{plain_rows, first_of}

@@ -15,7 +15,8 @@ use Rattle.ucd_derived.specs.declared.IndicConjunctBreak.TheVariants as InCb
 use Rattle.ucd_derived.proofs.IndicConjunctBreakLemmas.{indic_conjunct_break_stepped, indic_conjunct_break_number_injective}
 use Rattle.ucd_emoji.specs.Binary.{is_extended_pictographic}
 use Rattle.ucd_emoji.proofs.BinaryLemmas.{is_extended_pictographic_stepped}
-use Rattle.unicode_segmentation.specs.Grapheme.{break_by_pair, ends_in_linker, is_consonant, is_extend, is_zwj, is_regional, ends_in_pictograph, ends_in_half_flag, is_grapheme_break}
+use Rattle.unicode_segmentation.specs.Grapheme.{break_by_pair, ends_in_linker, is_consonant, is_extend, is_zwj, is_regional, ends_in_pictograph}
+use Rattle.unicode_segmentation.specs.Grapheme.{ends_in_half_flag, is_grapheme_break}
 use Rattle.rbbi_model.specs.Words.{IsCharacter, IsText}
 use Rattle.rbbi_annexes.proofs.Monitors.{Monitor, seen, Tells}
 
@@ -51,8 +52,10 @@ same_class-true a b is =
     let parts = and_parts values (conjuncts && beq a.pictograph b.pictograph) is in
     let rest = and_parts conjuncts (beq a.pictograph b.pictograph) parts.1 in
     λ i. record {
-      value = grapheme_cluster_break_number_injective a.value b.value (eqb-true (grapheme_cluster_break_number a.value) (grapheme_cluster_break_number b.value) parts.0) i;
-      conjunct = indic_conjunct_break_number_injective a.conjunct b.conjunct (eqb-true (indic_conjunct_break_number a.conjunct) (indic_conjunct_break_number b.conjunct) rest.0) i;
+      value = grapheme_cluster_break_number_injective a.value b.value (eqb-true (grapheme_cluster_break_number a.value)
+          (grapheme_cluster_break_number b.value) parts.0) i;
+      conjunct = indic_conjunct_break_number_injective a.conjunct b.conjunct (eqb-true (indic_conjunct_break_number a.conjunct)
+          (indic_conjunct_break_number b.conjunct) rest.0) i;
       pictograph = same_from_beq a.pictograph b.pictograph rest.1 i;
     }
 
@@ -85,7 +88,8 @@ same_before a b =
 pub same_before-true : (a b : Before) → same_before a b ≡ true → a ≡ b
 unfolding same_before
 same_before-true a b is =
-    let lasts = and_parts (same_last a.last b.last) (beq a.linker b.linker && (beq a.pictograph b.pictograph && (beq a.joiner b.joiner && beq a.half_flag b.half_flag))) is in
+    let lasts = and_parts (same_last a.last b.last) (beq a.linker b.linker && (beq a.pictograph b.pictograph &&
+    (beq a.joiner b.joiner && beq a.half_flag b.half_flag))) is in
     let linkers = and_parts (beq a.linker b.linker) (beq a.pictograph b.pictograph && (beq a.joiner b.joiner && beq a.half_flag b.half_flag)) lasts.1 in
     let pictographs = and_parts (beq a.pictograph b.pictograph) (beq a.joiner b.joiner && beq a.half_flag b.half_flag) linkers.1 in
     let rest = and_parts (beq a.joiner b.joiner) (beq a.half_flag b.half_flag) pictographs.1 in
@@ -174,7 +178,8 @@ module _ (classes : List Class) (category : ℕ → ℕ) (fits : (c : ℕ) → I
   seen_state [] are = refl
   seen_state (c ∷ before) are = ap₂ after_class (seen_state before are.1) (fits c are.0) ∙ after_is c before
 
-  breaks_is : (before : List ℕ) (c : ℕ) (behind : List ℕ) → is_grapheme_break true before (c ∷ behind) ≡ breaks_by (state_of before).last (state_of before) (class_of c)
+  breaks_is : (before : List ℕ) (c : ℕ) (behind : List ℕ) →
+      is_grapheme_break true before (c ∷ behind) ≡ breaks_by (state_of before).last (state_of before) (class_of c)
   unfolding is_grapheme_break breaks_by
   breaks_is [] c behind = refl
   breaks_is (last ∷ before) c behind = refl

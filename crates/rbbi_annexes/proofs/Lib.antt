@@ -7,5 +7,6 @@ pub mod Reading
 pub mod Checked
 pub mod Graphemes
 pub mod Words
+pub mod Sentences
 pub mod Computing
 pub mod Pieces

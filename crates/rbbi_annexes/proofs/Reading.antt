@@ -1,5 +1,6 @@
 -- Reading a table back from its spelling, as far as the places of boundaries depend on it.
-use Rattle.std.proofs.Common.{◌≡◌, ℕ, zero, suc, ◌+◌, ◌*◌, ◌/◌, ◌%◌, ◌<◌, ◌≤◌, cond, List, [], ◌∷◌, ◌++◌, length, get_or, take, drop, refl, ap, ap₂, sym, ◌∙◌, arith}
+use Rattle.std.proofs.Common.{◌≡◌, ℕ, zero, suc, ◌+◌, ◌*◌, ◌/◌, ◌%◌, ◌<◌, ◌≤◌, cond, List, [], ◌∷◌, ◌++◌, length, get_or, take, drop, refl, ap, ap₂, sym}
+use Rattle.std.proofs.Common.{◌∙◌, arith}
 use Rattle.std.proofs.Common.{append_assoc, mod-eq_of_lt, div-add-mod', ◌^◌, inl, inr, lit<}
 use Rattle.std.specs.List.{AllByRecursion, flat_map}
 use Rattle.std.proofs.Math.Nat.{pow-le-pow_right}
@@ -220,7 +221,8 @@ module _ (table : Table) (valid : IsValidTable table) where
       let rows : List ℕ = row_bytes 1 table.categories table.rows table.cells ++ table.safe in
       let lists : List ℕ = flat_map list_bytes table.lists ++ rows in
       let behind = ap (lists_behind (length table.lists)) (behind_ranges table.ranges lists)
-      ∙ behind_lists table.lists rows (all_through IsValidList (λ statuses. length statuses < 65536) (λ statuses is. omega (arith, is.few)) table.lists valid.lists.each) in
+      ∙ behind_lists table.lists rows (all_through IsValidList (λ statuses. length statuses < 65536) (λ statuses is. omega
+      (arith, is.few)) table.lists valid.lists.each) in
       let are = rows_are table.categories table.rows table.cells table.safe valid.well_formed.cells heads_fit (cells_small few) in
       λ i. record {
         categories = table.categories;
@@ -242,7 +244,8 @@ module _ (table : Table) (valid : IsValidTable table) where
       ++ row_bytes size table.categories table.rows table.cells ++ table.safe)) one
       ∙ ap parts_in (in_order 1)
       ∙ counted (flat_map range_bytes table.ranges ++ (flat_map list_bytes table.lists
-      ++ (row_bytes 1 table.categories table.rows table.cells ++ table.safe))) (range_count table.categories table.ranges valid.ranges.apart valid.ranges.within)
+      ++ (row_bytes 1 table.categories table.rows table.cells ++ table.safe)))
+      (range_count table.categories table.ranges valid.ranges.apart valid.ranges.within)
       ∙ from_parts few ranges_fit
 
   -- the parts of a valid table are read back from each of its spellings in version 2, where it has at most 255 rows

@@ -1,17 +1,20 @@
 -- The monitor of the rules on words.
-use Rattle.std.proofs.Common.{◌≡◌, ℕ, zero, suc, Bool, true, false, not, ◌&&◌, ◌||◌, eqb, List, [], ◌∷◌, Option, Some, None, get_or, sym, refl, ap, ap₂, ◌∙◌, cond}
+use Rattle.std.proofs.Common.{◌≡◌, ℕ, zero, suc, Bool, true, false, not, ◌&&◌, ◌||◌, eqb, List, [], ◌∷◌, Option, Some, None, get_or, sym, refl, ap, ap₂}
+use Rattle.std.proofs.Common.{◌∙◌, cond}
 use Rattle.std.specs.Prelude.{unwrap_or}
 use Rattle.std.specs.Bool.{beq}
 use Rattle.std.proofs.lemmas.Bool.{and_parts, eqb-true, false≢true}
-use Rattle.ucd_table.proofs.Stepped.{Stepped, zip_stepped, map_stepped}
+use Rattle.ucd_table.proofs.Stepped.{Stepped, zip_stepped}
 use Rattle.ucd_table.proofs.Facts.{same_from_beq}
 use Rattle.ucd_breaks.specs.WordBreak.{word_break, word_break_number}
 use Rattle.ucd_breaks.specs.declared.WordBreak.{WordBreak}
-use Rattle.ucd_breaks.specs.declared.WordBreak.TheVariants.{Cr, Extend, Format, HebrewLetter, ALetter, Numeric, Other, Zwj}
+use Rattle.ucd_breaks.specs.declared.WordBreak.TheVariants.{Extend, Format, HebrewLetter, ALetter, Numeric, Other, Zwj}
 use Rattle.ucd_breaks.proofs.WordBreakLemmas.{word_break_stepped, word_break_number_injective}
 use Rattle.ucd_emoji.specs.Binary.{is_extended_pictographic}
 use Rattle.ucd_emoji.proofs.BinaryLemmas.{is_extended_pictographic_stepped}
-use Rattle.unicode_segmentation.specs.Word.{break_by_pair, is_ignored, is_ah_letter, is_hebrew_letter, is_mid_letter, is_mid_num, is_single_quote, is_double_quote, is_numeric, is_katakana, is_extend_num_let, is_regional, significant, starts_with_half_flag, joins, value_at, is_word_break}
+use Rattle.unicode_segmentation.specs.Word.{break_by_pair, is_ignored, is_ah_letter, is_hebrew_letter, is_mid_letter, is_mid_num, is_single_quote}
+use Rattle.unicode_segmentation.specs.Word.{is_double_quote, is_numeric, is_katakana, is_extend_num_let, is_regional, significant, starts_with_half_flag}
+use Rattle.unicode_segmentation.specs.Word.{joins, value_at, is_word_break}
 use Rattle.rbbi_model.specs.Words.{IsCharacter, IsText}
 use Rattle.rbbi_annexes.proofs.Monitors.{Monitor, seen, coming, Tells}
 
@@ -67,7 +70,8 @@ pub record Left : Type 0 where
 unfoldable pub same_left : Left → Left → Bool
 same_left a b =
     beq a.letter b.letter && (beq a.letter_mid b.letter_mid && (beq a.hebrew b.hebrew && (beq a.hebrew_quote b.hebrew_quote
-    && (beq a.number b.number && (beq a.number_mid b.number_mid && (beq a.katakana b.katakana && (beq a.connector b.connector && beq a.half_flag b.half_flag)))))))
+    && (beq a.number b.number && (beq a.number_mid b.number_mid && (beq a.katakana b.katakana &&
+    (beq a.connector b.connector && beq a.half_flag b.half_flag)))))))
 
 same_left-true : (a b : Left) → same_left a b ≡ true → a ≡ b
 unfolding same_left
@@ -274,7 +278,8 @@ module _ (classes : List Class) (category : ℕ → ℕ) (fits : (c : ℕ) → I
       ∙ kind_step (word_break c) (significant behind)
 
   breaks_is : (before : List ℕ) (c : ℕ) (behind : List ℕ) →
-      breaks_by (state_of before).last (state_of before).left (class_of c) (value_of (kind_of (value_at (significant behind) 0))) ≡ is_word_break before (c ∷ behind)
+      breaks_by (state_of before).last (state_of before).left (class_of c) (value_of (kind_of (value_at (significant behind) 0))) ≡ is_word_break before
+      (c ∷ behind)
   unfolding is_word_break breaks_by state_of last_of
   breaks_is [] c behind = refl
   breaks_is (last ∷ before) c behind =
@@ -304,7 +309,8 @@ module _ (classes : List Class) (category : ℕ → ℕ) (fits : (c : ℕ) → I
         end = end_breaks;
         inside = λ before c behind before_are is behind_are.
             sym (breaks_is before c behind)
-            ∙ sym (ap₂ (λ (m : Before) (class : Class). breaks_by m.last m.left class (value_of (kind_of (value_at (significant behind) 0)))) (seen_state before before_are) (fits c is))
+            ∙ sym (ap₂ (λ (m : Before) (class : Class). breaks_by m.last m.left class (value_of (kind_of (value_at (significant behind) 0))))
+            (seen_state before before_are) (fits c is))
             ∙ ap (λ p. (word_monitor classes).breaks (seen (word_monitor classes) category before) (category c) p) (sym (coming_kind behind behind_are));
       }
 

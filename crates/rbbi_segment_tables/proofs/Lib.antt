@@ -1,2 +1,3 @@
 pub mod GraphemeTable
 pub mod WordTable
+pub mod SentenceTable

@@ -9,6 +9,7 @@ mod word;
 
 ghost use Rattle.std.specs.Prelude.{true};
 ghost use Rattle.unicode_segmentation.specs.Grapheme.{is_grapheme_break};
+ghost use Rattle.unicode_segmentation.specs.Sentence.{is_sentence_break};
 ghost use Rattle.unicode_segmentation.specs.Word.{is_word_break};
 ghost use Rattle.rbbi_annexes.specs.Breaks.{SpellBreaksBy};
 
@@ -33,7 +34,12 @@ pub fn words() -> &'static [u8]
 }
 
 /// The bytes of the table file for sentences (UAX #29).
-pub fn sentences() -> &'static [u8] {
+///
+/// The boundaries of each text by a table that the bytes spell are exactly the places at which the
+/// annex breaks the text.
+pub fn sentences() -> &'static [u8]
+    ensures { SpellBreaksBy result.now is_sentence_break }
+{
     sentence::SENTENCE
 }
 
