@@ -3,6 +3,8 @@ use Rattle.std.proofs.Common.{◌≡◌, ℕ, ◌+◌, true, cond, List, [], ◌
 use Rattle.std.proofs.lemmas.Bool.{cases_Bool, cond-true, cond-false}
 use Rattle.unicode_segmentation.specs.Segments.{Rule, prepend, cut}
 use Rattle.unicode_segmentation.specs.Grapheme.{is_grapheme_break}
+use Rattle.unicode_segmentation.specs.Sentence.{is_sentence_break}
+use Rattle.unicode_segmentation.specs.Word.{is_word_break}
 use Rattle.rbbi_annexes.specs.Breaks.{breaks_from, ends_from, BreaksAreEnds}
 
 -- a piece that grows by a character at its start ends where it did
@@ -53,7 +55,7 @@ module _ (rule : Rule) (end : (before : List ℕ) → rule before [] ≡ true) w
       let further : List ℕ = breaks_from rule (c ∷ []) behind 1 in
       cond-true (rule [] (c ∷ behind)) (0 ∷ further) further (start (c ∷ behind)) ∙ ap (λ es. 0 ∷ es) (sym (ends_are behind [] c 0))
 
--- the rules on grapheme clusters break at each end of a text
+-- the rules of the annex break at each end of a text
 grapheme_end : (before : List ℕ) → is_grapheme_break true before [] ≡ true
 unfolding is_grapheme_break
 grapheme_end [] = refl
@@ -65,3 +67,27 @@ grapheme_start behind = refl
 
 pub graphemes_are_ends : BreaksAreEnds (is_grapheme_break true)
 graphemes_are_ends = breaks_are_ends (is_grapheme_break true) grapheme_end grapheme_start
+
+word_end : (before : List ℕ) → is_word_break before [] ≡ true
+unfolding is_word_break
+word_end [] = refl
+word_end (last ∷ before) = refl
+
+word_start : (behind : List ℕ) → is_word_break [] behind ≡ true
+unfolding is_word_break
+word_start behind = refl
+
+pub words_are_ends : BreaksAreEnds is_word_break
+words_are_ends = breaks_are_ends is_word_break word_end word_start
+
+sentence_end : (before : List ℕ) → is_sentence_break before [] ≡ true
+unfolding is_sentence_break
+sentence_end [] = refl
+sentence_end (last ∷ before) = refl
+
+sentence_start : (behind : List ℕ) → is_sentence_break [] behind ≡ true
+unfolding is_sentence_break
+sentence_start behind = refl
+
+pub sentences_are_ends : BreaksAreEnds is_sentence_break
+sentences_are_ends = breaks_are_ends is_sentence_break sentence_end sentence_start

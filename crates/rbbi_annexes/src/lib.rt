@@ -6,10 +6,14 @@
 
 ghost use Rattle.std.specs.Prelude.{true};
 ghost use Rattle.unicode_segmentation.specs.Grapheme.{is_grapheme_break};
+ghost use Rattle.unicode_segmentation.specs.Sentence.{is_sentence_break};
+ghost use Rattle.unicode_segmentation.specs.Word.{is_word_break};
 ghost use Rattle.rbbi_annexes.specs.Breaks.{BreaksAreEnds};
 
-/// The places at which the annex breaks a text between grapheme clusters are its start and the
-/// ends of the clusters into which `unicode_segmentation` cuts it.
-pub fn breaks_are_the_ends_of_clusters()
-    ensures { BreaksAreEnds (is_grapheme_break true) }
+/// The places at which the annex breaks a text are its start and the ends of the clusters, words or
+/// sentences into which `unicode_segmentation` cuts it.
+pub fn breaks_are_the_ends_of_segments()
+    ensures graphemes { BreaksAreEnds (is_grapheme_break true) }
+    ensures words { BreaksAreEnds is_word_break }
+    ensures sentences { BreaksAreEnds is_sentence_break }
 {}
