@@ -109,7 +109,8 @@ class Bench:
 
     def rules(self, name):
         """The path of a rule file of the repository, its options, and the path of ICU's version."""
-        folder = 'examples' if name in ('letters', 'words') else 'rules/15.0'
+        older = name in ('grapheme', 'line')
+        folder = 'examples' if name in ('letters', 'words') else 'rules/15.0' if older else 'rules'
         path = os.path.join(self.top, folder, f'{name}.rules')
         with open(path, encoding='utf-8') as file:
             theirs = self.file(f'{name}.icu', icu_rules.translate(file.read()))

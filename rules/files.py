@@ -17,8 +17,9 @@ def find(folder, name):
 
 
 def rules_of(name, is_15=False):
-    """The rule file for one kind of boundary."""
-    return os.path.join(HERE, '15.0' if is_15 else '', name + '.rules')
+    """The rule file for one kind of boundary. Words and sentences have the same one for 15.0."""
+    older = os.path.join(HERE, '15.0', name + '.rules')
+    return older if is_15 and os.path.exists(older) else os.path.join(HERE, name + '.rules')
 
 
 def tests_of(name, folder):
