@@ -18,11 +18,15 @@ use std::sync::ledger::{Blank, Ledger};
 
 /// Whether the surroundings ask for no colours, by `NO_COLOR`, or by a terminal that has none.
 fn asks_for_no_color(rt: &HostRuntime) -> bool {
-    match (env::var(rt, "NO_COLOR"), env::var(rt, "TERM")) {
-        (Ok(value), _) if !value.as_str().is_empty() => true,
-        (_, Ok(terminal)) => terminal.as_str() == "dumb",
-        _ => false,
-    }
+    let is_asked = match env::var(rt, "NO_COLOR") {
+        Ok(value) => !value.as_str().is_empty(),
+        Err(_) => false,
+    };
+    let has_none = match env::var(rt, "TERM") {
+        Ok(terminal) => terminal.as_str() == "dumb",
+        Err(_) => false,
+    };
+    is_asked || has_none
 }
 
 /// What the program is run in.
