@@ -1,5 +1,5 @@
 //! Rows that are numbered.
-use rbbi_once::NumberedRows;
+use rbbi_bits::NumberedRows;
 use std::test::Fail;
 
 #[test]

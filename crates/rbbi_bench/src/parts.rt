@@ -7,7 +7,7 @@ use crate::rules::{categories_of, rules_of, table_of};
 use rbbi_cats::partition;
 use rbbi_file::read_table;
 use rbbi_positions::positions;
-use rbbi_table::{Marks, Table};
+use rbbi_table::{FrontPlaces, Table};
 use rbbi_text::{Chars, EditText, Pieces, PlainText, Raw, Steps};
 use std::alloc::Global;
 use std::sync::ledger::Ledger;
@@ -46,7 +46,7 @@ pub(crate) fn measure_positions(alloc: Global, bytes: &[u8], rounds: u32) -> Opt
 fn count_boundaries<T: Chars, L: Ledger>(
     table: &Table,
     text: &T,
-    marks: &mut Marks,
+    marks: &mut FrontPlaces,
     steps: &mut Steps<L>,
 ) -> u64
     requires { marks.old ≡ table.now.slashes }
@@ -71,7 +71,7 @@ fn count_again<T: Chars, L: Ledger>(
     rounds: u32,
     steps: &mut Steps<L>,
 ) -> Option<u64> {
-    let Ok(mut marks) = Marks::new(alloc, table) else {
+    let Ok(mut marks) = FrontPlaces::new(alloc, table) else {
         return None;
     };
     let mut count = 0;

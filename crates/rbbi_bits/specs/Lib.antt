@@ -1,1 +1,4 @@
 pub mod BitRows
+pub mod Hashes
+pub mod NumberedRows
+pub mod inner

@@ -15,12 +15,3 @@ module _ (next : List Run) (count : ℕ) (new part : Run) (is : new ≡ part) wh
       take-set next count new
       ∙ sym (take_all most_runs (take count next) (omega (arith, length-take count next)))
       ∙ ap (take most_runs) (sym (append-nil (take count next)) ∙ ap (λ l. take count next ++ l) (sym (cond-false (has_entries part) (part ∷ []) [] empty)))
-
-  pub put_in : count < 16 → count < length next → (length new.entries ≡ 0 → ⊥) → take (count + 1) (set next count new) ≡ take most_runs
-      (take count next ++ cond (has_entries part) (part ∷ []) [])
-  put_in few short some =
-      let filled : has_entries part ≡ true = ap (λ r. not (eqb (length r.entries) 0)) (sym is) ∙ ap not (ne_eqb (length new.entries) 0 some) in
-      take_more_set next count new short
-      ∙ ap (λ r. take count next ++ r ∷ []) is
-      ∙ sym (take_all most_runs (take count next ++ part ∷ []) (omega (arith, length-append (take count next) (part ∷ []), length-take count next)))
-      ∙ ap (λ l. take most_runs (take count next ++ l)) (sym (cond-true (has_entries part) (part ∷ []) [] filled))

@@ -17,13 +17,6 @@ pub data Path (table : Table) (x : List ℕ) : Boundary → List Boundary → Bo
   Here : (b : Boundary) → Path table x b [] b
   Then : (b : Boundary) (done : List Boundary) (c : Boundary) → b.at < length x → Path table x (next_boundary table x b.at) done c → Path table x b (b ∷ done) c
 
--- one search further
-pub path_step : (table : Table) (x : List ℕ) (b : Boundary) (done : List Boundary) (c : Boundary) → Path table x b done c → c.at < length x →
-    Path table x b (done ++ c ∷ []) (next_boundary table x c.at)
-path_step table x _ _ _ (Here b) short = Then b [] (next_boundary table x b.at) short (Here (next_boundary table x b.at))
-path_step table x _ _ _ (Then b done c room path) short =
-    Then b (done ++ c ∷ []) (next_boundary table x c.at) room (path_step table x (next_boundary table x b.at) done c path short)
-
 -- a path from a member that was reached reaches its end
 pub path_reaches : (table : Table) (x : List ℕ) (p : ℕ) (before : List Boundary) (b : Boundary) (done : List Boundary) (c : Boundary) →
     Reached table x p before b → Path table x b done c → Reached table x p (before ++ done) c

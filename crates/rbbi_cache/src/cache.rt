@@ -16,7 +16,7 @@ use crate::runs::{Shown, find_after, find_before, find_nearest};
 use crate::search::search;
 use crate::search_back::search_back;
 use crate::{Entry, Run};
-use rbbi_table::{Marks, Table};
+use rbbi_table::{FrontPlaces, Table};
 use rbbi_text::{Chars, Steps};
 use std::alloc::{AllocError, Global};
 use std::marker::Model;
@@ -39,7 +39,7 @@ pub struct Cache {
     /// The run that a search fills, before it is kept.
     pub(crate) spare: Run,
     /// Scratch space of searches.
-    pub(crate) marks: Marks,
+    pub(crate) marks: FrontPlaces,
 }
 
 impl Model for Cache {
@@ -59,7 +59,7 @@ impl Cache {
             runs: RunList::empty(alloc)?,
             next: RunList::empty(alloc)?,
             spare: Run::empty(alloc)?,
-            marks: Marks::new(alloc, table)?,
+            marks: FrontPlaces::new(alloc, table)?,
         })
     }
 

@@ -14,7 +14,7 @@ use crate::fixed::Fixed;
 use crate::runs::{MOST_RUNS, put_first, to_front};
 use crate::search::go_on;
 use crate::{Entry, Run};
-use rbbi_table::{Marks, Table};
+use rbbi_table::{FrontPlaces, Table};
 use rbbi_text::{Chars, Steps};
 use std::alloc::{AllocError, Global};
 use std::marker::Model;
@@ -108,7 +108,7 @@ impl RunList {
         i: u32,
         from: Entry,
         spare: &mut Run,
-        marks: &mut Marks,
+        marks: &mut FrontPlaces,
         steps: &mut Steps<L>,
     ) -> (Entry, bool)
         requires fit { marks.old ≡ table.now.slashes }

@@ -5,7 +5,7 @@ ghost use Rattle.rbbi_model.specs.Runs.{low};
 ghost use Rattle.rbbi_cache.specs.inner.Scans.{HasBegun, ContinuesScan};
 
 use crate::{Entry, Run};
-use rbbi_table::{Marks, Table};
+use rbbi_table::{FrontPlaces, Table};
 use rbbi_text::{Chars, Steps};
 use std::sync::ledger::Ledger;
 
@@ -25,7 +25,7 @@ pub(crate) fn scan<T: Chars, L: Ledger>(
     run: &mut Run,
     from: Entry,
     i: u32,
-    marks: &mut Marks,
+    marks: &mut FrontPlaces,
     steps: &mut Steps<L>,
 ) -> Entry
     requires fit { marks.old ≡ table.now.slashes }

@@ -8,7 +8,7 @@ ghost use Rattle.rbbi_cache.specs.inner.Ready.{IsReadyAfter, GoesOnAs};
 
 use crate::scan::scan;
 use crate::{Entry, Run};
-use rbbi_table::{Marks, Table};
+use rbbi_table::{FrontPlaces, Table};
 use rbbi_text::{Chars, Steps};
 use std::sync::ledger::Ledger;
 
@@ -23,7 +23,7 @@ pub(crate) fn search<T: Chars, L: Ledger>(
     anchor: u32,
     i: u32,
     run: &mut Run,
-    marks: &mut Marks,
+    marks: &mut FrontPlaces,
     steps: &mut Steps<L>,
 ) -> Entry
     requires fit { marks.old ≡ table.now.slashes }
@@ -57,7 +57,7 @@ pub(crate) fn go_on<T: Chars, L: Ledger>(
     run: &mut Run,
     from: Entry,
     spare: &mut Run,
-    marks: &mut Marks,
+    marks: &mut FrontPlaces,
     steps: &mut Steps<L>,
 ) -> (Entry, bool)
     requires fit { marks.old ≡ table.now.slashes }

@@ -11,7 +11,7 @@ ghost use Rattle.rbbi_cache.specs.inner.Ready.{HasNoneBefore, IsReadyBefore};
 use crate::anchors::anchor_before;
 use crate::scan::scan;
 use crate::{Entry, Run};
-use rbbi_table::{Marks, Table};
+use rbbi_table::{FrontPlaces, Table};
 use rbbi_text::{Chars, Steps};
 use std::sync::ledger::Ledger;
 
@@ -23,7 +23,7 @@ pub(crate) fn search_back<T: Chars, L: Ledger>(
     text: &T,
     i: u32,
     run: &mut Run,
-    marks: &mut Marks,
+    marks: &mut FrontPlaces,
     steps: &mut Steps<L>,
 ) -> Option<Entry>
     requires fit { marks.old ≡ table.now.slashes }
@@ -60,7 +60,7 @@ fn search_from<T: Chars, L: Ledger>(
     anchor: u32,
     i: u32,
     run: &mut Run,
-    marks: &mut Marks,
+    marks: &mut FrontPlaces,
     steps: &mut Steps<L>,
 ) -> Option<Entry>
     requires fit { marks.old ≡ table.now.slashes }

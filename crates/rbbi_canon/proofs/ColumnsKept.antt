@@ -3,7 +3,7 @@ use Rattle.std.proofs.Common.{◌≡◌, ◌≢◌, ◌⊎◌, ℕ, ◌+◌, ◌
 use Rattle.std.proofs.lemmas.Bool.{cases_lt, cases_order}
 use Rattle.std.proofs.lemmas.Grind.{same_number_lists}
 use Rattle.std.proofs.lemmas.List.{get_or_append_left, get_or_push, length_push}
-use Rattle.rbbi_once.specs.NumberedRows.{listed_row, IsUnlisted, KeepsOrAdds}
+use Rattle.rbbi_bits.specs.NumberedRows.{listed_row, IsUnlisted, KeepsOrAdds}
 use Rattle.rbbi_canon.specs.declared.grid.Grid.{Grid}
 use Rattle.rbbi_canon.specs.inner.Grids.{LeadOnAlike, IsColumn, AreRepresentatives}
 
@@ -35,16 +35,6 @@ lead_alike grid c d column is is' row low = sym (is.each row low) ∙ is'.each r
 pub kept_length : (old : List (List ℕ)) (column : List ℕ) (new : List (List ℕ)) → KeepsOrAdds old column new → length new ≤ length old + 1
 kept_length old column new keeps =
     ⊎_elim (λ same. omega (arith, ap length same)) (λ added. omega (arith, ap length added.0, length_push old column)) keeps
-
-pub no_columns : (grid : Grid) → AreKept grid 0 [] [] []
-no_columns grid = record {
-  many = refl;
-  few = omega arith;
-  once = λ j k less short. absurd (omega (arith, short));
-  columns = λ k short. absurd (omega (arith, short));
-  all = refl;
-  each = λ c short. absurd (omega (arith, short));
-}
 
 module _ (grid : Grid) (category : ℕ) (kept : List (List ℕ)) (firsts found column : List ℕ) (h : AreKept grid category kept firsts found)
     (short : category < grid.width) (is : IsColumn grid category column) where

@@ -97,19 +97,6 @@ module _ (these those : Table) (valid : IsValidTable these) (valid' : IsValidTab
   category_low' : (c : ℕ) → category_of those.ranges c < those.categories
   category_low' c = category_within those.categories those.ranges c valid'.ranges
 
-  pub no_letters : (labels : List ℕ) → length labels ≡ these.categories + those.categories →
-      ((k : ℕ) → k < these.categories + those.categories → get_or labels k 0 ≡ k) → AreConnected these those labels [] 0 0
-  no_letters labels all own = record {
-    so_far = record {
-      each = λ k short. absurd (omega (arith, short));
-      joined = none_joined (these.categories + those.categories) labels (λ k. (letter_at [] k).this) (λ k. these.categories + (letter_at [] k).that) all own;
-    };
-    here_within = omega arith;
-    there_within = omega arith;
-    at_here = λ k short. absurd (omega (arith, short));
-    at_there = λ k short. absurd (omega (arith, short));
-  }
-
   -- one more letter
   pub letter_more : (labels new : List ℕ) (letters : List Letter) (letter : Letter) → AreLettersSoFar these those labels letters → IsLetter these those letter →
       JoinsLabels labels letter.this (these.categories + letter.that) new → AreLettersSoFar these those new (letters ++ letter ∷ [])

@@ -68,22 +68,6 @@ pub record AreRangesSoFar (ranges : List CategoryRange) (found : List ℕ) (i : 
   pub numbered : (j k : ℕ) → j < length made → 1 ≤ k → k < (get_or made j no_range).category →
       (e : ℕ) × (e < j) × ((get_or made e no_range).category ≡ k)
 
-pub no_ranges : (ranges : List CategoryRange) (found order : List ℕ) → 1 ≤ length found → length order ≡ 1 → get_or order 0 0 ≡ get_or found 0 0 →
-    AreRangesSoFar ranges found 0 order []
-no_ranges ranges found order some one first = record {
-  some = omega (arith, one);
-  items = λ k short. (0, omega (arith, some), ap (λ n. get_or order n 0) (let e : k ≡ 0 = omega (arith, short, one) in e) ∙ first);
-  first = first;
-  none = λ e. refl;
-  category = λ c. (omega (arith, one), first);
-  starts = λ short. tt;
-  apart = tt;
-  from_zero = λ one. absurd (omega (arith, one));
-  within = tt;
-  met = λ k some short. absurd (omega (arith, some, short, one));
-  numbered = λ j k short. absurd (omega (arith, short));
-}
-
 module _ (count : ℕ) (ranges : List CategoryRange) (found : List ℕ) (valid : AreValidRanges count ranges) (all : length found ≡ count) where
   -- starts before a range are less than its own
   starts_before : (i c : ℕ) → i < length ranges → start_of ranges i ≤ c → AllByRecursion (λ (range : CategoryRange). range.start ≤ c) (take i ranges)

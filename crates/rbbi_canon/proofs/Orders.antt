@@ -65,48 +65,6 @@ module _ (order places : List ℕ) (h : IsIndexed order places) where
   pub indexed_few : length order ≤ length places
   indexed_few = few_once order (length places) indexed_once (λ k low. (h.each k low).0)
 
-  -- one more number that wasn't met
-  pub indexed_more : (number : ℕ) → number < length places → get_or places number 0 ≡ 0 →
-      IsIndexed (order ++ number ∷ []) (set places number (length order + 1))
-  indexed_more number low unmet =
-      let more : List ℕ = order ++ number ∷ [] in
-      let places' : List ℕ = set places number (length order + 1) in
-      let long : length more ≡ length order + 1 = length_push order number in
-      let all : length places' ≡ length places = length-set places number (length order + 1) in
-      let old : (k : ℕ) → k < length order → get_or more k 0 ≡ get_or order k 0 = λ k short. get_or_append_left order (number ∷ []) 0 k short in
-      let last : get_or more (length order) 0 ≡ number = get_or_push order number 0 (length order) refl in
-      let here : get_or places' number 0 ≡ length order + 1 = get_or-set_same places number (length order + 1) 0 low in
-      let other : (n : ℕ) → n ≢ number → get_or places' n 0 ≡ get_or places n 0 = λ n apart. get_or-set_other places number n (length order + 1) 0 apart in
-      record {
-        few = omega (arith, all, h.few);
-        each = λ k short.
-            ⊎_elim
-            (λ less.
-            let was = h.each k less in
-            let apart : get_or order k 0 ≢ number = λ same. omega (arith, was.1, ap (λ n. get_or places n 0) same, unmet) in (
-              omega (arith, old k less, was.0, all),
-              ap (λ n. get_or places' n 0) (old k less) ∙ other (get_or order k 0) apart ∙ was.1,
-            ))
-            (λ most.
-            let end : k ≡ length order = omega (arith, most, short, long) in
-            let is : get_or more k 0 ≡ number = ap (λ n. get_or more n 0) end ∙ last in
-            (omega (arith, is, low, all), ap (λ n. get_or places' n 0) is ∙ here ∙ ap (λ n. n + 1) (sym end)))
-            (cases_lt k (length order));
-        only = λ n short some.
-            ⊎_elim
-            (λ same.
-            let is : get_or places' n 0 ≡ length order + 1 = ap (λ m. get_or places' m 0) same ∙ here in
-            (omega (arith, is, long), ap (λ m. get_or more m 0) (let e : get_or places' n 0 - 1 ≡ length order = omega (arith, is) in e) ∙ last ∙ sym same))
-            (λ apart.
-            let is = other n apart in
-            let was = h.only n (omega (arith, short, all)) (λ zero'. some (is ∙ zero')) in (
-              omega (arith, is, was.0, long),
-              ap (λ m. get_or more (m - 1) 0) is
-                  ∙ old (get_or places n 0 - 1) (let e : get_or places n 0 - 1 < length order = omega (arith, was.0, is, some) in e) ∙ was.1,
-            ))
-            (cases_eq n number);
-      }
-
 -- An order that stays, or has one more number: that at this place.
 pub record Grows (old new : List ℕ) (place : ℕ) : Type 0 where
   pub more : length old ≤ length new

@@ -188,9 +188,6 @@ module _ (these those : Table) (valid : IsValidTable these) (valid' : IsValidTab
     pub led_reached : AreReached these those letters (pairs ++ new ∷ [])
     led_reached = pair_more pairs searched.reached new from_low letter_in led_this led_that
 
-    pub led_last : pair_at (pairs ++ new ∷ []) (length pairs) ≡ new
-    led_last = new_pair pairs searched.reached new from_low letter_in led_this led_that
-
     pub led_searched : (joint : List ℕ) → marks_of these this ≡ marks_of those that → JoinsLabels labels this (length these.rows + that) joint →
         AreSearched these those letters joint (pairs ++ new ∷ []) next
     led_searched joint marked joins =

@@ -3,7 +3,7 @@ ghost use Rattle.std.specs.Prelude.{◌≡◌, ◌<◌, ◌≤◌, ℕ, length, 
 ghost use Rattle.rbbi_canon.specs.inner.Grids.{IsColumn, AreRepresentatives};
 
 use crate::grid::Grid;
-use rbbi_once::NumberedRows;
+use rbbi_bits::NumberedRows;
 use std::alloc::{AllocError, Global};
 
 /// Copies the next rows for a category.

@@ -18,7 +18,7 @@ use std::alloc::{AllocError, Global};
 ///
 /// It goes over pairs of rows to which a text leads, breadth first, and joins the rows of a pair by
 /// union-find (Hopcroft and Karp 1971). So it looks at fewer pairs than both tables have rows, and
-/// at fewer letters from each than both have categories.
+/// at fewer letters from each than both have categories; no clause counts them.
 pub fn differ(alloc: Global, these: &Table, those: &Table) -> Result<Option<Word>, AllocError>
     ensures { IfOk result (λ found. MatchOption found
         (AreMarkedAlike these.now those.now)

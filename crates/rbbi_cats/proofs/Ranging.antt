@@ -62,22 +62,6 @@ pub record RangesSoFar (steps : List Step) (categories : List ℕ) (ranges : Lis
   pub apart : AreApart (ranges ++ last ∷ [])
   pub within : (count : ℕ) → ((class : ℕ) → get_or categories class 0 < count) → AllByRecursion (IsWithin count) ranges
 
-pub first_range : (steps : List Step) (categories : List ℕ) (last : CategoryRange) → AreSteps steps → last.start ≡ 0 → last.category ≡ get_or categories 0 0 →
-    RangesSoFar steps categories [] last 0
-first_range steps categories last form zero' is = record {
-  start = 0;
-  class = 0;
-  left = record { form = form; point = omega arith; numbers = λ c from. refl };
-  before = λ c less. absurd (omega (arith, less));
-  behind = λ c from. ap (λ t. cond t last.category 0) (le-leb last.start c (omega (arith, zero'))) ∙ is;
-  last_is = is;
-  last_from = omega (arith, zero');
-  starts = tt;
-  from_zero = zero';
-  apart = tt;
-  within = λ count small. tt;
-}
-
 module _ (steps : List Step) (categories : List ℕ) (ranges : List CategoryRange) (last : CategoryRange) (i : ℕ) (step d : Step) (inside : i < length steps)
     (is : step ≡ get_or steps i d) (h : RangesSoFar steps categories ranges last i) where
   later : h.start < step.start

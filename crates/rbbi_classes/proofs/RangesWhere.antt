@@ -5,14 +5,14 @@ use Rattle.std.proofs.lemmas.Bool.{cases_lt}
 use Rattle.std.proofs.lemmas.Bool.Decides.{nat_tests}
 use Rattle.rbbi_model.specs.Ranges.{Range, Has}
 use Rattle.rbbi_sets.specs.Rising.{AreRising, AreRisingFrom}
-use Rattle.rbbi_classes.specs.RangesWhere.{range_to, with_first, with_code_point, ranges_where_from, ranges_where}
+use Rattle.rbbi_classes.specs.RangesWhere.{range_between, with_first, with_code_point, ranges_where_from, ranges_where}
 use Rattle.rbbi_sets.proofs.Rise.{rising-weaker}
 
 -- a code point before ranges leaves them rising
 first_rises : (c : ℕ) (rs : List Range) → c ≤ 0x10FFFF → AreRisingFrom (c + 1) rs → AreRisingFrom c (with_first c rs)
 first_rises c [] low r = (omega arith, omega arith, low, tt)
 first_rises c (x ∷ rs) low r =
-    elim (nat_eq x.low (c + 1)) as (λ b. nat_eq x.low (c + 1) ≡ b → AreRisingFrom c (if b then range_to c x.high ∷ rs else range_to c c ∷ x ∷ rs)) [
+    elim (nat_eq x.low (c + 1)) as (λ b. nat_eq x.low (c + 1) ≡ b → AreRisingFrom c (if b then range_between c x.high ∷ rs else range_between c c ∷ x ∷ rs)) [
       | true ↦ λ e. let a = r.0 in let d = r.1 in (omega arith, omega arith, r.2, r.3)
       | false ↦ λ e. let a = r.0 in let apart : c + 2 ≤ x.low = grind (arith, nat_tests) in (omega arith, omega arith, low, (apart, r.1, r.2, r.3))
     ] refl
@@ -34,7 +34,7 @@ first_has c d [] r = (
   λ w. elim w [ inl e ↦ inl (omega arith, omega arith) | inr n ↦ absurd n ],
 )
 first_has c d (x ∷ rs) r =
-    elim (nat_eq x.low (c + 1)) as (λ b. nat_eq x.low (c + 1) ≡ b → Has (if b then range_to c x.high ∷ rs else range_to c c ∷ x ∷ rs) d ↔
+    elim (nat_eq x.low (c + 1)) as (λ b. nat_eq x.low (c + 1) ≡ b → Has (if b then range_between c x.high ∷ rs else range_between c c ∷ x ∷ rs) d ↔
     ((d ≡ c) ⊎ Has (x ∷ rs) d)) [
       | true ↦ λ e.
           let touch : x.low ≡ c + 1 = grind (arith, nat_tests) in

@@ -3,13 +3,13 @@ use Rattle.std.specs.Prelude.{ℕ, zero, suc, ◌+◌, Bool, true, false, nat_eq
 use Rattle.rbbi_model.specs.Ranges.{Range}
 
 -- the range from one code point to another, both counted
-abbrev pub range_to : ℕ → ℕ → Range
-range_to low high = record { low = low; high = high }
+abbrev pub range_between : ℕ → ℕ → Range
+range_between low high = record { low = low; high = high }
 
 -- a code point before ranges: it lengthens the first where it touches it
 abbrev pub with_first : ℕ → List Range → List Range
-with_first c [] = range_to c c ∷ []
-with_first c (range ∷ ranges) = if nat_eq range.low (c + 1) then range_to c range.high ∷ ranges else range_to c c ∷ range ∷ ranges
+with_first c [] = range_between c c ∷ []
+with_first c (range ∷ ranges) = if nat_eq range.low (c + 1) then range_between c range.high ∷ ranges else range_between c c ∷ range ∷ ranges
 
 -- the same, where the code point passes
 abbrev pub with_code_point : Bool → ℕ → List Range → List Range

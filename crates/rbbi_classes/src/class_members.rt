@@ -62,7 +62,7 @@ fn word_count(set: &ClassSet, layout: &Layout) -> usize
     ensures all { (c : ℕ) → HasMember layout.now set.now c
         → class_of layout.now c < 64 * result }
 {
-    set.end().min(layout.last_class() / 64 + 1)
+    set.end_word().min(layout.last_class() / 64 + 1)
 }
 
 /// Whether one word has a class whose first code point is a character.

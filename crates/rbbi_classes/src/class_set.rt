@@ -117,7 +117,7 @@ impl ClassSet {
     }
 
     /// The number of a word from which on all are 0.
-    pub(crate) fn end(&self) -> usize
+    pub(crate) fn end_word(&self) -> usize
         ensures value { result ≡ self.now.from + length self.now.words }
         ensures few { result ≤ 2 ^ 58 }
     {
@@ -159,7 +159,7 @@ impl ClassSet {
         ensures { IfOk result (λ set. (bounds : List ℕ) (c : ℕ) → HasMember bounds set c
             ↔ (HasMember bounds self c ⊎ HasMember bounds other c)) }
     {
-        if self.end() - self.from < other.end() - other.from {
+        if self.end_word() - self.from < other.end_word() - other.from {
             other.join(alloc, &self)
         } else {
             self.join(alloc, &other)
@@ -172,7 +172,7 @@ impl ClassSet {
             ↔ (HasMember bounds self c ⊎ HasMember bounds other.now c)) }
     {
         let first = other.from;
-        let last = other.end();
+        let last = other.end_word();
         if first == last {
             return Ok(self);
         }
@@ -187,7 +187,7 @@ impl ClassSet {
             ↔ (HasMember bounds self c × HasMember bounds other.now c)) }
     {
         let first = self.from;
-        let last = self.end();
+        let last = self.end_word();
         let mut row = self.into_row(alloc, first, last)?;
         row.combine(Operation::Intersection, other, first, last);
         Ok(ClassSet::of_row(row))
@@ -199,13 +199,13 @@ impl ClassSet {
             ↔ (HasMember bounds self c × ¬ HasMember bounds other.now c)) }
     {
         let first = self.from;
-        let last = self.end();
+        let last = self.end_word();
         let mut row = self.into_row(alloc, first, last)?;
         row.combine(
             Operation::Difference,
             other,
             first.max(other.from),
-            last.min(other.end()),
+            last.min(other.end_word()),
         );
         Ok(ClassSet::of_row(row))
     }
@@ -232,7 +232,7 @@ impl ClassSet {
         ensures few { IfOk result (λ row. row.from + length row.words.items ≤ 2 ^ 58) }
     {
         let from = self.from;
-        let end = self.end();
+        let end = self.end_word();
         let row = self.into_own_row(alloc)?;
         if from <= first && last <= end {
             return Ok(row);
@@ -244,7 +244,7 @@ impl ClassSet {
     fn into_own_row(self, alloc: Global) -> Result<WordRow, AllocError>
         ensures { IfOk result (λ row. bits row ≡ self) }
     {
-        let count = self.end() - self.from;
+        let count = self.end_word() - self.from;
         let ClassSet { from, words } = self;
         let chunks = match words {
             Words::Own(words) => return Ok(WordRow { from, words }),
@@ -272,7 +272,7 @@ impl ClassSet {
     {
         let words = vec![in alloc; 0; last - first]?;
         let mut row = WordRow { from: first, words };
-        row.combine(Operation::Union, self, self.from, self.end());
+        row.combine(Operation::Union, self, self.from, self.end_word());
         Ok(row)
     }
 }

@@ -3,7 +3,7 @@ ghost use Rattle.std.specs.Prelude.{◌≡◌, ◌↔◌, ◌<◌, ◌≤◌, �
 ghost use Rattle.std.specs.Rc.{rc_slice_items};
 
 use crate::ClassSet;
-use rbbi_once::mixed;
+use rbbi_bits::mixed;
 use std::alloc::{AllocError, Global};
 use std::collections::HashMap;
 use std::rc::RcSlice;
@@ -36,7 +36,7 @@ impl ClassShelf {
         ensures { IfOk result (λ kept. kept ≡ set.now) }
     {
         let from = set.from();
-        let end = set.end();
+        let end = set.end_word();
         if end - from == 1 {
             return Ok(ClassSet::of_word(from, set.word(from)));
         }

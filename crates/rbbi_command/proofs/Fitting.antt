@@ -9,10 +9,6 @@ pub record AreFitTo (operands : List Operand) (words : List (List ℕ)) (i : ℕ
   pub back : AllFit (drop i operands) (drop i words) → AllFit operands words
   pub forth : AllFit operands words → AllFit (drop i operands) (drop i words)
 
--- before the first
-pub fit_none : (operands : List Operand) (words : List (List ℕ)) → AreFitTo operands words 0
-fit_none operands words = record { back = λ fit. fit; forth = λ fit. fit }
-
 module _ {operands : List Operand} {words : List (List ℕ)} {i : ℕ} (so_far : AreFitTo operands words i) (operand d : Operand) (word : List ℕ)
     (inside : i < length operands) (inside' : i < length words) (is : operand ≡ get_or operands i d) (is' : word ≡ get_or words i word) where
   first_left : drop i operands ≡ operand ∷ drop (i + 1) operands

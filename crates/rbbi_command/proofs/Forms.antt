@@ -40,16 +40,6 @@ pub no_words : (words : List (List ℕ)) → words ≡ [] → AreNoForm words
 no_words words none request asks = absurd (cc (asks.are))
 
 module _ (words : List (List ℕ)) (word : List ℕ) (more : List (List ℕ)) (are : words ≡ word ∷ more) where
-  -- the first word is of no command
-  pub no_command : ((command : Command) → word ≢ name_of command) → AreNoForm words
-  no_command none request asks = none request.command (let same = sym are ∙ asks.are in cc)
-
-  -- the words behind it begin with no options
-  pub no_options : ((settings : List Setting) (rest : List (List ℕ)) → ¬ BeginWithSettings more settings rest) → AreNoForm words
-  no_options none request asks =
-      let same : asks.more ≡ more = (let both = sym are ∙ asks.are in cc) in
-      none asks.settings request.operands (subst (λ w. BeginWithSettings w asks.settings request.operands) same asks.begin)
-
   module _ (command : Command) (is : word ≡ name_of command) (settings : List Setting) (rest : List (List ℕ)) (begin : BeginWithSettings more settings rest)
     where
       command_is : (request : Request) → IsCommandLine words request → request.command ≡ command

@@ -5,7 +5,7 @@ ghost use Rattle.rbbi_conform.specs.Verdicts.{IsVerdict};
 ghost use Rattle.rbbi_conform.specs.inner.Verdicts.{AreRight, IsFirstWrong};
 
 use crate::Test;
-use rbbi_table::{Marks, Table};
+use rbbi_table::{FrontPlaces, Table};
 use rbbi_text::{Chars, Steps};
 use std::sync::ledger::Ledger;
 
@@ -23,7 +23,7 @@ pub enum Verdict {
 pub fn judge<L: Ledger>(
     table: &Table,
     test: &Test,
-    marks: &mut Marks,
+    marks: &mut FrontPlaces,
     steps: &mut Steps<L>,
 ) -> Verdict
     requires { marks.old ≡ table.now.slashes }

@@ -3,7 +3,7 @@ use Rattle.std.proofs.Common.{◌≡◌, ℕ, ◌+◌, ◌*◌, ◌<◌, ◌≤�
 use Rattle.std.proofs.lemmas.Bool.{cases_lt, cases_eq}
 use Rattle.std.proofs.lemmas.List.{get_or_append_left, get_or_push, get_or_past, length_push}
 use Rattle.std.proofs.lemmas.Nat.{mul-add-lt}
-use Rattle.rbbi_once.specs.NumberedRows.{listed_row}
+use Rattle.rbbi_bits.specs.NumberedRows.{listed_row}
 use Rattle.rbbi_dfa.specs.inner.PositionRows.{PositionRows}
 use Rattle.rbbi_dfa.specs.inner.Determinizing.{AreFollowers, Completes, IsCell, LeadsOn, cell_at, AreReachedSets, AreCellsUpTo, Begin, AddsCells, AddsZeros}
 use Rattle.rbbi_dfa.proofs.Lead.{cell_kept}
@@ -118,14 +118,6 @@ module _ (rows : PositionRows) where
             (λ category small. same (j + 2) category (omega (arith, before)) small) (are.each j before)))
             (cases_eq j i);
       }
-
-  pub no_sets : (sets : List (List ℕ)) → sets ≡ [] → AreReachedSets rows sets
-  no_sets sets none = record {
-    are_rows = λ i short. absurd (omega (arith, short, ap length none));
-    reached = λ i short. absurd (omega (arith, short, ap length none));
-    some = λ i short. absurd (omega (arith, short, ap length none));
-    apart = λ i j less short. absurd (omega (arith, short, ap length none));
-  }
 
 -- what the loop over the sets keeps
 pub record IsLed (rows : PositionRows) (sets : List (List ℕ)) (cells candidates next : List ℕ) (i : ℕ) : Type 0 where

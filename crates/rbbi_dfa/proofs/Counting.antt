@@ -7,7 +7,7 @@ use Rattle.rbbi_model.specs.Tables.{Table, CategoryRange, category_of, row_along
 use Rattle.rbbi_model.specs.LeafSets.{InLeafSet, HasLeafSets}
 use Rattle.rbbi_model.proofs.Lists.{all_by_index, all_at}
 use Rattle.rbbi_bits.specs.BitRows.{Holds}
-use Rattle.rbbi_once.specs.NumberedRows.{listed_row}
+use Rattle.rbbi_bits.specs.NumberedRows.{listed_row}
 use Rattle.rbbi_dfa.specs.inner.PositionRows.{PositionRows}
 use Rattle.rbbi_dfa.specs.inner.PositionAutomata.{IsOfRules}
 use Rattle.rbbi_dfa.specs.inner.Determinizing.{HasReachedSets, IsDeterminized}

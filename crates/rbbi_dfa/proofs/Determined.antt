@@ -10,7 +10,7 @@ use Rattle.rbbi_model.specs.Tables.{Table, CategoryRange, category_of, accept_of
 use Rattle.rbbi_model.specs.ValidTables.{IsWay}
 use Rattle.rbbi_model.specs.Marks.{Marks, no_marks, look_ahead_number, marks_of}
 use Rattle.rbbi_model.proofs.Rising.{rising_same}
-use Rattle.rbbi_once.specs.NumberedRows.{listed_row}
+use Rattle.rbbi_bits.specs.NumberedRows.{listed_row}
 use Rattle.rbbi_dfa.specs.inner.Automata.{IsAutomatonRow}
 use Rattle.rbbi_dfa.specs.inner.PositionRows.{PositionRows}
 use Rattle.rbbi_dfa.specs.inner.PositionAutomata.{Marked, IsOfRules}

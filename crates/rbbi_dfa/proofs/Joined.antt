@@ -3,7 +3,7 @@ use Rattle.std.proofs.Common.{◌≡◌, ℕ, ◌+◌, ◌*◌, List, [], length
 use Rattle.std.proofs.lemmas.Bool.{cases_eq}
 use Rattle.rbbi_model.specs.Tables.{Table, RowHead, empty_head, step}
 use Rattle.rbbi_model.specs.Marks.{Marks, no_marks}
-use Rattle.rbbi_once.specs.NumberedRows.{listed_row}
+use Rattle.rbbi_bits.specs.NumberedRows.{listed_row}
 use Rattle.rbbi_dfa.specs.inner.PositionRows.{PositionRows}
 use Rattle.rbbi_dfa.specs.inner.Determinizing.{AreReachedSets, IsCell, cell_at, AreCellsUpTo, AreMarked, IsDeterminized}
 use Rattle.rbbi_dfa.proofs.Lead.{begin_refl}

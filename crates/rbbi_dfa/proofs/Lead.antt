@@ -4,11 +4,11 @@ use Rattle.std.proofs.Common.{arith}
 use Rattle.std.proofs.lemmas.Bool.{cases_eq}
 use Rattle.std.proofs.lemmas.List.{get_or_append_left, get_or_push, length_push}
 use Rattle.rbbi_bits.specs.BitRows.{Holds}
-use Rattle.rbbi_once.specs.NumberedRows.{listed_row}
+use Rattle.rbbi_bits.specs.NumberedRows.{listed_row}
 use Rattle.rbbi_dfa.specs.inner.PositionRows.{PositionRows}
 use Rattle.rbbi_dfa.specs.inner.Determinizing.{IsStep, IsReached, FromFirst, FromSet, IsSome, AreDifferent, IsRow, AreReachedSets, IsCell, AreReachedCandidates}
 use Rattle.rbbi_dfa.specs.inner.Determinizing.{Begin, AddsCells, HasReachedSets}
-use Rattle.rbbi_once.specs.NumberedRows.{IsUnlisted, KeepsOrAdds}
+use Rattle.rbbi_bits.specs.NumberedRows.{IsUnlisted, KeepsOrAdds}
 use Rattle.rbbi_bits.proofs.Rows.{same_rows}
 
 -- rows of one width that differ hold different positions
@@ -113,9 +113,6 @@ module _ (rows : PositionRows) where
         omega (arith, at, short),
         subst (IsStep rows candidates category) (sym (ap (λ n. listed_row sets n) (let e : cell - 2 ≡ number = omega (arith, at) in e) ∙ same)) is,
       )
-
-  pub no_cells : (sets : List (List ℕ)) (candidates cells : List ℕ) → AddsCells rows sets candidates cells cells 0
-  no_cells sets candidates cells = record { many = omega arith; kept = λ k short. refl; each = λ category short. absurd (omega (arith, short)) }
 
   pub cells_more : (sets new : List (List ℕ)) (candidates old cells : List ℕ) (category cell : ℕ) → AddsCells rows sets candidates old cells category →
       Begin sets new → IsCell rows new candidates category cell → AddsCells rows new candidates old (cells ++ cell ∷ []) (category + 1)

@@ -22,7 +22,7 @@ use Rattle.rbbi_model.proofs.RulesCover.{front_lies}
 use Rattle.rbbi_model.proofs.Local.{front_to_end, look_ahead_from, length_piece}
 use Rattle.rbbi_positions.specs.FollowPositions.{IsSpelled}
 use Rattle.rbbi_bits.specs.BitRows.{Holds}
-use Rattle.rbbi_once.specs.NumberedRows.{listed_row}
+use Rattle.rbbi_bits.specs.NumberedRows.{listed_row}
 use Rattle.rbbi_dfa.specs.inner.Automata.{LeadsToMarks}
 use Rattle.rbbi_dfa.specs.inner.PositionRows.{PositionRows}
 use Rattle.rbbi_dfa.specs.inner.PositionAutomata.{IsOfRules}

@@ -15,7 +15,7 @@ use Rattle.rbbi_model.specs.Places.{has_bit}
 use Rattle.rbbi_model.specs.Lists.{Member, IsRising}
 use Rattle.rbbi_model.proofs.MarksUnique.{bit_is_one, one_is_bit}
 use Rattle.rbbi_bits.specs.BitRows.{Holds}
-use Rattle.rbbi_once.specs.NumberedRows.{listed_row}
+use Rattle.rbbi_bits.specs.NumberedRows.{listed_row}
 use Rattle.rbbi_model.specs.Tables.{RowHead, empty_head}
 use Rattle.rbbi_dfa.specs.inner.PositionRows.{PositionMark, PositionRows}
 use Rattle.rbbi_dfa.specs.inner.PositionAutomata.{Marked}
@@ -273,26 +273,6 @@ fronts_small fronts mark slashes below few small =
 
 -- heads and lists with those of one set more
 module _ (rows : PositionRows) (sets : List (List ℕ)) where
-  pub marked_start : (heads : List RowHead) (lists : List (List ℕ)) → heads ≡ empty_head ∷ empty_head ∷ [] → lists ≡ (0 ∷ []) ∷ [] →
-      AreMarked rows sets heads lists 0
-  marked_start heads lists are_heads are_lists = record {
-    many = ap length are_heads;
-    many_lists = ap length are_lists;
-    stop = ap (λ l. get_or l 0 empty_head) are_heads;
-    start = ap (λ l. get_or l 1 empty_head) are_heads;
-    first_list = ap (λ l. get_or l 0 []) are_lists;
-    numbered = λ i short. absurd (omega (arith, short));
-    lists_within = λ row short.
-        ⊎_elim
-        (λ first. subst (λ (h : RowHead). h.list < 1) (sym (ap (λ r. get_or heads r empty_head) first ∙ ap (λ l. get_or l 0 empty_head) are_heads))
-        (omega arith))
-        (λ other.
-        let second : row ≡ 1 = omega (arith, short, other) in
-        subst (λ (h : RowHead). h.list < 1) (sym (ap (λ r. get_or heads r empty_head) second ∙ ap (λ l. get_or l 1 empty_head) are_heads)) (omega arith))
-        (cases_eq row 0);
-    each = λ i short. absurd (omega (arith, short));
-  }
-
   pub marked_more : (heads : List RowHead) (lists : List (List ℕ)) (count : ℕ) (head : RowHead) (statuses : List ℕ) → head.list ≡ count + 1 →
       IsAccept rows (listed_row sets count) head.accept → (head.accept < 2 → AreFrontsOf rows (listed_row sets count) head.fronts) →
       (2 ≤ head.accept → head.fronts ≡ 0) → head.fronts < 2 ^ rows.slashes → AreTagsOf rows (listed_row sets count) statuses →

@@ -24,7 +24,7 @@ use Rattle.rbbi_positions.proofs.RuleSpans.{one_rule, front_middle}
 use Rattle.rbbi_positions.proofs.Leaves.{rule_within, leaf_within}
 use Rattle.rbbi_dfa.specs.declared.determinize.rows_of.ListKind.TheVariants.{Completed, Fronts, Tags}
 use Rattle.rbbi_bits.specs.BitRows.{Holds, row_bit}
-use Rattle.rbbi_once.specs.NumberedRows.{listed_row}
+use Rattle.rbbi_bits.specs.NumberedRows.{listed_row}
 use Rattle.rbbi_dfa.specs.inner.PositionRows.{PositionMark, PositionRows}
 use Rattle.rbbi_dfa.specs.inner.PositionAutomata.{Marked, FirstOf, LastOf, FollowsIn, FrontLastOf, Chainable, LookAhead, Tagged, IsOfRules}
 use Rattle.rbbi_dfa.specs.inner.MarkedRows.{no_rule, rule_mark, IsChainedRow, AreRowsIn, AreMarkedIn, AreRowsOf, HasOwner, AreSmallMarks}

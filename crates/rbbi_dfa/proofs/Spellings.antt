@@ -192,9 +192,3 @@ rule_stands (other ∷ rules) (suc number) rule is_rule i short =
     ap (λ n. slice_get (all_sets (other ∷ rules)) n) from
     ∙ get_right (sets_of_rule other) (all_sets rules) (first_position rules number + i)
     ∙ rule_stands rules number rule is_rule i short
-
--- there are as many sets as leaves
-pub all_many : (rules : List Rule) → length (all_sets rules) ≡ sum_by leaves_of rules
-all_many [] = refl
-all_many (rule ∷ rules) =
-    omega (arith, length-append (sets_of_rule rule) (all_sets rules), rule_sets_many rule, all_many rules, sum_by-cons leaves_of rule rules)

@@ -4,7 +4,7 @@ use Rattle.std.proofs.lemmas.Bool.{cases_lt}
 use Rattle.std.proofs.lemmas.List.{get_or_default}
 use Rattle.rbbi_bits.specs.BitRows.{Holds}
 use Rattle.rbbi_bits.proofs.Rows.{none_past}
-use Rattle.rbbi_once.specs.NumberedRows.{listed_row}
+use Rattle.rbbi_bits.specs.NumberedRows.{listed_row}
 use Rattle.rbbi_dfa.specs.inner.PositionRows.{PositionMark, PositionRows}
 use Rattle.rbbi_dfa.specs.inner.PositionAutomata.{Marked}
 use Rattle.rbbi_dfa.specs.inner.Determinizing.{IsStep, AreFollowers, AreFollowersUpTo}

@@ -10,7 +10,7 @@ use Rattle.rbbi_model.specs.ValidTables.{IsValidList}
 use Rattle.rbbi_model.specs.Marks.{Marks}
 use Rattle.rbbi_model.proofs.Rising.{rising_tail, less_than_later}
 use Rattle.rbbi_model.proofs.Lists.{all_by_index, all_at, all_through}
-use Rattle.rbbi_once.specs.NumberedRows.{listed_row}
+use Rattle.rbbi_bits.specs.NumberedRows.{listed_row}
 use Rattle.rbbi_dfa.specs.inner.Automata.{IsDetermined}
 use Rattle.rbbi_dfa.specs.inner.PositionRows.{PositionRows}
 use Rattle.rbbi_dfa.specs.inner.PositionAutomata.{Marked, Tagged, IsOfRules}

@@ -7,7 +7,7 @@ use Rattle.rbbi_model.specs.Chains.{EndsAt, IsTagAt}
 use Rattle.rbbi_model.specs.Tables.{Table, CategoryRange, category_of, row_along}
 use Rattle.rbbi_model.specs.Marks.{Marks, no_marks, look_ahead_number, HasFront, IsCompleted, IsEnded, IsUnended, AreMarksAtEnd, AreMarks, marks_of}
 use Rattle.rbbi_model.specs.Marks.{HasSameMarks}
-use Rattle.rbbi_once.specs.NumberedRows.{listed_row}
+use Rattle.rbbi_bits.specs.NumberedRows.{listed_row}
 use Rattle.rbbi_dfa.specs.inner.Automata.{with_ranges}
 use Rattle.rbbi_dfa.specs.inner.PositionRows.{PositionRows}
 use Rattle.rbbi_dfa.specs.inner.PositionAutomata.{Marked, IsOfRules}

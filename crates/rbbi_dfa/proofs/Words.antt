@@ -11,7 +11,7 @@ use Rattle.rbbi_model.specs.Tables.{Table, CategoryRange, category_of, step, row
 use Rattle.rbbi_model.specs.Marks.{look_ahead_number}
 use Rattle.rbbi_model.specs.LeafSets.{EndedBefore}
 use Rattle.rbbi_bits.specs.BitRows.{Holds}
-use Rattle.rbbi_once.specs.NumberedRows.{listed_row}
+use Rattle.rbbi_bits.specs.NumberedRows.{listed_row}
 use Rattle.rbbi_dfa.specs.inner.PositionRows.{PositionRows}
 use Rattle.rbbi_dfa.specs.inner.PositionAutomata.{IsOfRules}
 use Rattle.rbbi_dfa.specs.inner.PositionAutomata.{Marked, LookAhead}

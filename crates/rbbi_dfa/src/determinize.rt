@@ -4,14 +4,14 @@ ghost use Rattle.std.specs.Prelude.{◌≡◌, ◌≤◌, ◌<◌, ℕ, List, []
 ghost use Rattle.rbbi_dfa.specs.inner.Determinizing.{AreReachedSets, AreReachedCandidates, Begin};
 ghost use Rattle.rbbi_dfa.specs.inner.Determinizing.{AddsCells, AddsZeros, AreCellsUpTo, AreMarked};
 ghost use Rattle.rbbi_dfa.specs.inner.Determinizing.{HasReachedSets, IsDeterminized};
-ghost use Rattle.rbbi_once.specs.NumberedRows.{items_of};
+ghost use Rattle.rbbi_bits.specs.NumberedRows.{items_of};
 ghost use Rattle.rbbi_model.specs.Rules.{Rule};
 ghost use Rattle.rbbi_model.specs.Tables.{CategoryRange};
 ghost use Rattle.rbbi_model.specs.Marks.{HasSameMarks};
 ghost use Rattle.rbbi_model.specs.LeafSets.{HasLeafSets};
 ghost use Rattle.rbbi_dfa.specs.inner.Automata.{IsDetermined, with_ranges};
 ghost use Rattle.rbbi_dfa.specs.inner.MarkedRows.{AreReadable, AreOf};
-ghost use Rattle.rbbi_once.specs.NumberedRows.{listed_row, IsUnlisted, KeepsOrAdds};
+ghost use Rattle.rbbi_bits.specs.NumberedRows.{listed_row, IsUnlisted, KeepsOrAdds};
 
 mod error;
 mod last_words;
@@ -25,8 +25,7 @@ use crate::automaton::{Automaton, Head};
 use error::DeterminizeErr;
 use last_words::LastWords;
 use position_rows::Rows;
-use rbbi_bits::span_of;
-use rbbi_once::NumberedRows;
+use rbbi_bits::{NumberedRows, span_of};
 use rbbi_positions::Positions;
 use rows_of::rows_of;
 use std::alloc::{AllocError, Global};

@@ -4,7 +4,7 @@
 ghost use Rattle.std.specs.Prelude.{◌≡◌, ◌<◌, ◌≤◌, length};
 ghost use Rattle.rbbi_model.specs.Searches.{found};
 
-use rbbi_table::{Marks, Table};
+use rbbi_table::{FrontPlaces, Table};
 use rbbi_text::{Chars, Steps};
 use std::sync::ledger::Ledger;
 
@@ -13,7 +13,7 @@ use std::sync::ledger::Ledger;
 pub fn first_segment<T: Chars, L: Ledger>(
     table: &Table,
     text: &T,
-    marks: &mut Marks,
+    marks: &mut FrontPlaces,
     steps: &mut Steps<L>,
 ) -> u32
     requires { marks.old ≡ table.now.slashes }

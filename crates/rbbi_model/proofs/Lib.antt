@@ -6,8 +6,6 @@ pub mod Worked
 pub mod Categories
 pub mod Found
 pub mod Covering
-pub mod Cursors
-pub mod ReplyCount
 pub mod Decimals
 pub mod RulesCover
 pub mod Cuts

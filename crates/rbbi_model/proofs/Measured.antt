@@ -147,9 +147,6 @@ module _ (f : ℕ → ℕ) (n : ℕ) (none : f 0 ≡ 0) (rises : (i j : ℕ) →
       (cases_lt j i))
       (cases_lt i j)
 
-  pub answers_first : (c : ℕ) → answer (turned f bs) (f c) First ≡ turned_answer f (answer bs c First)
-  answers_first c = ap (λ z. record { reply = Place z; cursor = z }) (sym none)
-
   pub answers_last : (c : ℕ) → answer (turned f bs) (f c) Last ≡ turned_answer f (answer bs c Last)
   answers_last c = ap (λ z. record { reply = Place z; cursor = z }) (end_turned f none bs)
 

@@ -22,10 +22,7 @@ ghost use Rattle.rbbi_model.specs.Chains.{EndsAt};
 ghost use Rattle.rbbi_model.specs.Boundaries.{Boundary, AreBoundaries};
 ghost use Rattle.rbbi_model.specs.Unchained.{NoneChainedInto, EndsAtWord};
 
-pub use answers::{
-    cursor_is_a_boundary, one_reply_for_each_command, one_table_reply_for_each_command,
-    replies_are_unique, table_replies_are_those_of_the_rules,
-};
+pub use answers::{replies_are_unique, table_replies_are_those_of_the_rules};
 pub use boundaries::boundaries_cover_the_text;
 pub use by_characters::{boundaries_by_characters, edits_by_characters, replies_by_characters};
 pub use compiled::{marks_are_unique, same_marks_give_the_boundaries};
@@ -39,7 +36,7 @@ pub use searches::{
     completed_search_has_a_cut, look_end_is_past_the_start, next_boundary_is_past_the_start,
     searches_depend_on_what_they_read, table_boundaries_cover_the_text,
 };
-pub use tables::{category_is_within, code_point_has_one_category};
+pub use tables::code_point_has_one_category;
 pub use unit::Unit;
 
 /// A text has at most one list of boundaries by a list of rules.

@@ -1,6 +1,6 @@
 //! Laws of tables.
 
-ghost use Rattle.std.specs.Prelude.{◌≡◌, ℕ, ◌<◌, ◌↔◌, List};
+ghost use Rattle.std.specs.Prelude.{◌≡◌, ℕ, ◌↔◌, List};
 ghost use Rattle.rbbi_model.specs.Words.{IsCodePoint};
 ghost use Rattle.rbbi_model.specs.Tables.{CategoryRange, HasCategory, category_of};
 ghost use Rattle.rbbi_model.specs.ValidTables.{AreValidRanges};
@@ -10,10 +10,4 @@ pub fn code_point_has_one_category()
     ensures { (categories : ℕ) (ranges : List CategoryRange) (c category : ℕ) →
         AreValidRanges categories ranges → IsCodePoint c →
         HasCategory ranges c category ↔ (category ≡ category_of ranges c) }
-{}
-
-/// The category of a code point is one of the table's.
-pub fn category_is_within()
-    ensures { (categories : ℕ) (ranges : List CategoryRange) (c : ℕ) →
-        AreValidRanges categories ranges → category_of ranges c < categories }
 {}

@@ -115,9 +115,6 @@ module _ (list : RuleList) (number : ℕ) (rule : Rule) (is : slice_get list.rul
       ∙ ap (λ n. some_rule test (take number (rules_of list)) 0 || test (rule_of list.sets rule) n) (at ∙ omega arith)
       ∙ sym (ap (λ l. some_rule test l 0) taken ∙ some_snoc test (take number (rules_of list)) (rule_of list.sets rule) 0)
 
-pub all_taken : (list : RuleList) (number : ℕ) → length list.rules ≤ number → take number (rules_of list) ≡ rules_of list
-all_taken list number past = take_all number (rules_of list) (omega (arith, past, length-map list.rules (rule_of list.sets)))
-
 -- the owners of the positions of one rule more
 pub owners_more : (rules : List model.Rule) (number count : ℕ) (rule : model.Rule) (owners : List ℕ) → slice_get rules number ≡ Some rule →
     count ≡ leaves_of rule → length owners ≡ first_position rules number →

@@ -454,19 +454,6 @@ set_added context leaves before after place row b at lawful few rows numbers =
       };
     }
 
--- the row of a leaf that stands there is lawful
-pub lawful_row : (context : Context) (leaves : FileLeaves) (next : ℕ) (value : Option model.SetTree) → StandFrom context leaves next (value ∷ []) →
-    IsLawfulRow (division_of context) (slice_get leaves.rows.items next)
-lawful_row context leaves next value stand =
-    let s = stand_leaf (IsSetRow (files_of context) (division_of context)) leaves.rows.items next value stand in
-    subst (IsLawfulRow (division_of context)) (sym s.1) (by_cases value s.0 s.2)
-  where
-    by_cases : (v : Option model.SetTree) (row : Option ClassBits) → IsSetRow (files_of context) (division_of context) v row →
-        IsLawfulRow (division_of context) (Some row)
-    by_cases None row is = absurd is
-    by_cases (Some tree) None is = absurd is
-    by_cases (Some tree) (Some row) is = is.form
-
 -- the tree of a leaf
 pub leaf_stands : (context : Context) (leaves : FileLeaves) (before after : Builder) (next n : ℕ) (value : Option model.SetTree) (t : Tree) →
     StandFrom context leaves next (value ∷ []) →

@@ -120,15 +120,6 @@ character_of files tree set members e =
     (tells_in_set files tree w.0)).0 w.2 in
     (w.0, (members.members w.0).1 both.1, both.0)
 
--- the code's test is that of the specification
-pub same_emptiness : (files : List File) (tree : Option model.SetTree) (set : List Range) (holds : Bool) →
-    (IsTrue holds ↔ ((c : ℕ) × Has set c × ¬ IsSurrogate c)) → IsValue files tree (Some set) → not holds ≡ is_empty_value files tree
-same_emptiness files None set holds tells is = absurd is
-same_emptiness files (Some tree) set holds tells is =
-    ap not (same_tests holds (holds_character files tree)
-    (λ e. character_in files tree set is (tells.0 e))
-    (λ e. (tells_true holds).1 (tells.1 (character_of files tree set is e))))
-
 pub in_set_takes : (files : List File) (tree : model.SetTree) (c : ℕ) → model.InSet (HasProperty files) tree c → in_set files tree c ≡ true
 in_set_takes files tree c is = (tells_in_set files tree c).1 is
 

@@ -7,7 +7,7 @@ ghost use Rattle.rbbi_segment.specs.declared.segments.Segment.{Segment};
 ghost use Rattle.rbbi_segment.specs.Segments.{segment_to, segments, TakesAll};
 
 use rbbi_io::{Sink, WriteErr};
-use rbbi_table::{Marks, Table};
+use rbbi_table::{FrontPlaces, Table};
 use rbbi_text::{Chars, PlainText, Steps, Unit};
 use std::alloc::Global;
 use std::sync::ledger::Ledger;
@@ -69,7 +69,7 @@ fn next_segment<L: Ledger>(
     unit: Unit,
     start: u32,
     start_offset: u32,
-    marks: &mut Marks,
+    marks: &mut FrontPlaces,
     steps: &mut Steps<L>,
 ) -> Segment
     requires within { start < length text.now }
@@ -107,7 +107,7 @@ pub(crate) fn hand_over<V: Receive, K: Sink, L: Ledger>(
         receiver.old (K.taken out.old) (K.taken out.new)) }
 {
     rbbi_model::next_boundary_is_past_the_start();
-    let mut marks = Marks::new(alloc, table)?;
+    let mut marks = FrontPlaces::new(alloc, table)?;
     let mut at = 0;
     let mut offset = 0;
     while at < text.len() {

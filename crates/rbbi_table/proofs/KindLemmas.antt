@@ -4,30 +4,6 @@ use Rattle.std.proofs.Math.Bool.{not, beq}
 use Rattle.rbbi_model.specs.Tables.{RowHead}
 use Rattle.rbbi_table.specs.Kinds.{next_of, ends_plainly, AreKinds}
 
-plain_few : (b : Bool) (n : ℕ) → n ≡ cond b 2 3 → n < 4
-plain_few true n is = omega (arith, is)
-plain_few false n is = omega (arith, is)
-
-plain_ends : (b : Bool) (n : ℕ) → n ≡ cond b 2 3 → ltb n 3 ≡ b
-plain_ends true n is = ap (λ k. ltb k 3) is
-plain_ends false n is = ap (λ k. ltb k 3) is
-
-plain_large : (b : Bool) (n : ℕ) → n ≡ cond b 2 3 → 1 < n
-plain_large true n is = omega (arith, is)
-plain_large false n is = omega (arith, is)
-
--- where all moves are of kind 2 or 3
-pub plain_kinds : {categories : ℕ} {rows : List RowHead} {cells : List ℕ} {row : ℕ} (kind : ℕ → ℕ) →
-    ((k : ℕ) → k < categories → kind k ≡ cond (ends_plainly rows (next_of categories cells row k)) 2 3) → AreKinds categories rows cells kind row
-plain_kinds {categories} {rows} {cells} {row} kind is k short =
-    let ends : Bool = ends_plainly rows (next_of categories cells row k) in
-    record {
-      few = plain_few ends (kind k) (is k short);
-      ends = plain_ends ends (kind k) (is k short);
-      forgets = λ zero. absurd (omega (arith, plain_large ends (kind k) (is k short), zero));
-      stays = λ one. absurd (omega (arith, plain_large ends (kind k) (is k short), one));
-    }
-
 -- kinds that are the same for each category
 pub same_kinds : {categories : ℕ} {rows : List RowHead} {cells : List ℕ} {row : ℕ} (kind kind' : ℕ → ℕ) →
     ((k : ℕ) → k < categories → kind' k ≡ kind k) → AreKinds categories rows cells kind row → AreKinds categories rows cells kind' row

@@ -7,13 +7,13 @@
 mod bits;
 mod blocks;
 mod error;
+mod front_places;
 mod fronts;
 mod gather;
 mod kinds;
 mod limits;
 mod list;
 mod lists;
-mod marks;
 mod moves;
 mod parts;
 mod ranges;
@@ -26,8 +26,8 @@ mod table;
 
 pub use blocks::Blocks;
 pub use error::TableErr;
+pub use front_places::FrontPlaces;
 pub use list::{ByteList, CellList, NumberList, NumberLists, PartList, RangeList, RowList};
-pub use marks::Marks;
 pub use parts::{Parts, RangeRow, RowHead};
 pub use safe::safe_pairs;
 pub use search::Found;

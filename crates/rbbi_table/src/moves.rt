@@ -22,8 +22,20 @@ pub(crate) const LIST: usize = 1;
 /// The place of the accept number behind a row's moves.
 pub(crate) const ACCEPT: usize = 2;
 
-/// The move to a row: eight times the place at which the row begins in the flat list, and 1 if some
-/// rule ends there and no look-ahead rule, 2 if a front ends there, 4 if a search ends there.
+/// The bit of a move to a row at which some rule ends, and no look-ahead rule.
+pub(crate) const ENDS: u32 = 1;
+
+/// The bit of a move to a row at which a front ends.
+pub(crate) const FRONT_ENDS: u32 = 2;
+
+/// The bit of a move to a row at which the search is over: row 0, or one that completes a
+/// look-ahead rule.
+pub(crate) const STOPS: u32 = 4;
+
+/// A move has above its three bits the place at which the row begins in the flat list.
+pub(crate) const PLACE: u32 = 8;
+
+/// The move to a row: its place in the flat list, and the bits that say what is there.
 fn move_to(rows: &[RowHead], next: u16, stride: usize) -> u32
     requires next { next < length rows.now }
     requires small { length rows.now * stride < 2 ^ 24 }
@@ -32,10 +44,14 @@ fn move_to(rows: &[RowHead], next: u16, stride: usize) -> u32
 {
     let head = &rows[next as usize];
     let place = u32::from(next) * stride as u32;
-    let ends = if head.accept == 1 { 1 } else { 0 };
-    let fronts = if head.fronts != 0 { 2 } else { 0 };
-    let stops = if next == 0 || head.accept >= 2 { 4 } else { 0 };
-    place * 8 + ends + fronts + stops
+    let ends = if head.accept == 1 { ENDS } else { 0 };
+    let fronts = if head.fronts != 0 { FRONT_ENDS } else { 0 };
+    let stops = if next == 0 || head.accept >= 2 {
+        STOPS
+    } else {
+        0
+    };
+    place * PLACE + ends + fronts + stops
 }
 
 /// Adds a row's moves, one for each of its next rows, and its front mask, list and accept number.

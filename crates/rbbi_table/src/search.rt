@@ -1,14 +1,19 @@
 //! One search in a table.
+//!
+//! There are two loops. This one serves every table: it reads a move of 32 bits for each character,
+//! whose bits (`moves.rt`) say whether a rule ends, a front ends, or the search is over. That of
+//! `short_search.rt` serves tables with no look-ahead rules: its moves have 16 bits, and it goes on
+//! over rows that are alike without a row's place in each step. It is the faster by half or more.
 ghost use Rattle.std.specs.Prelude.{◌≡◌, ℕ, ◌+◌, ◌-◌, ◌^◌, ◌<◌, length, min, nat_lt, if◌then◌else◌};
 ghost use Rattle.rbbi_model.specs.Searches.{found, look_end};
 ghost use Rattle.rbbi_table.specs.Parts.{table_of};
 ghost use Rattle.rbbi_table.specs.Kept.{IsKept};
 
 use crate::blocks::look_up;
-use crate::marks::note;
-use crate::moves::{ACCEPT, FRONTS, HEAD, LIST};
+use crate::front_places::note;
+use crate::moves::{ACCEPT, ENDS, FRONT_ENDS, FRONTS, HEAD, LIST, PLACE, STOPS};
 use crate::short_search::short_search;
-use crate::{Blocks, Marks, Parts, Table};
+use crate::{Blocks, FrontPlaces, Parts, Table};
 use rbbi_text::{Chars, Steps};
 use std::sync::ledger::Ledger;
 
@@ -80,15 +85,15 @@ fn search<T: Chars, L: Ledger>(
         let category = look_up(numbers, kept, text.char_at(at, steps));
         at += 1;
         let cell = moves[row + category as usize];
-        row = (cell / 8) as usize;
-        if cell % 2 == 1 {
+        row = (cell / PLACE) as usize;
+        if cell / ENDS % 2 == 1 {
             end = at;
             end_row = row;
         }
-        if cell / 2 % 2 == 1 {
+        if cell / FRONT_ENDS % 2 == 1 {
             note(places, moves[row + width + FRONTS], at);
         }
-        if cell / 4 % 2 == 1 {
+        if cell / STOPS % 2 == 1 {
             let accept = moves[row + width + ACCEPT];
             if accept >= 2 {
                 return Found {
@@ -117,7 +122,7 @@ impl Table {
         &self,
         text: &T,
         s: u32,
-        marks: &mut Marks,
+        marks: &mut FrontPlaces,
         steps: &mut Steps<L>,
     ) -> Found
         requires within { s < length (T.characters text.now) }

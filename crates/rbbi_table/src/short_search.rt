@@ -1,4 +1,10 @@
 //! One search in a table with no look-ahead rules.
+//!
+//! A row's numbers are its list and, behind it, a move for each category. A move is the place at
+//! which the next row begins, which is a multiple of 4, and more by its kind (`kinds.rt`), 0 to 3.
+//! Kinds 2 and 3 have the upper bit of the two. While moves have the kinds 0 and 1, a search goes
+//! on over rows at which a rule ends and that are alike, so each move is looked up in the row at
+//! which that stretch began, and no look-up waits for the one before.
 ghost use Rattle.std.specs.Prelude.{◌≡◌, ℕ, ◌+◌, ◌-◌, ◌*◌, ◌<◌, ◌≤◌, length, slice_index, min};
 ghost use Rattle.rbbi_model.specs.Searches.{found, look_end, row_at};
 ghost use Rattle.rbbi_table.specs.Parts.{table_of};
@@ -12,8 +18,14 @@ use crate::{Found, Parts};
 use rbbi_text::{Chars, Steps};
 use std::sync::ledger::Ledger;
 
+/// How many kinds of moves there are.
+const KINDS: u16 = 4;
+
+/// The kind of a move to a row at which no rule ends, as `kinds::OTHER`.
+const OTHER: u16 = 3;
+
 /// The move to row 0, at which a search ends: its place is 0.
-const STOP: u16 = 3;
+const STOP: u16 = OTHER;
 
 /// The place of a character's move behind the beginning of a row.
 #[inline(always)]
@@ -75,6 +87,7 @@ fn stretch_from<T: Chars, L: Ledger>(
     while end < len {
         let place = place_of(near, numbers, kept, text.char_at(end, steps));
         let next = moves[base + place];
+        // The kind is 2 or 3: the row's own move counts.
         if next / 2 % 2 == 1 {
             let next = moves[row + place];
             return Stretch { end, row, next };
@@ -113,8 +126,8 @@ pub(crate) fn short_search<T: Chars, L: Ledger>(
     let mut end = s;
     let mut end_row = 0;
     'reading: loop {
-        if next % 4 != 3 {
-            let row = (next / 4 * 4) as usize;
+        if next % KINDS != OTHER {
+            let row = (next / KINDS * KINDS) as usize;
             let over = stretch_from(parts, numbers, kept, near, moves, text, s, at, row, steps);
             end = over.end;
             end_row = over.row;
@@ -143,7 +156,7 @@ pub(crate) fn short_search<T: Chars, L: Ledger>(
             if at == len {
                 return longest(s, end, moves[end_row], len + 1);
             }
-            let row = (next / 4 * 4) as usize;
+            let row = (next / KINDS * KINDS) as usize;
             next = moves[row + place_of(near, numbers, kept, text.char_at(at, steps))];
             at += 1;
         }

@@ -2,7 +2,7 @@
 ghost use Rattle.std.specs.Prelude.{◌≡◌, ◌<◌};
 
 use crate::samples::{A, Sample, table_of};
-use rbbi_table::{Marks, Table};
+use rbbi_table::{FrontPlaces, Table};
 use rbbi_text::{Chars, PlainText, Steps};
 use std::alloc::Global;
 use std::marker::Brand;
@@ -45,7 +45,7 @@ fn searches<L: Ledger>(
 {
     let alloc = rt.alloc();
     let mut steps = Steps::<L>::new(rt, blank);
-    let mut marks = Marks::new(alloc, table)?;
+    let mut marks = FrontPlaces::new(alloc, table)?;
     let mut found = Vec::new(alloc);
     let mut at = 0;
     for _ in 0..text.len() {

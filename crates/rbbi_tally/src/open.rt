@@ -11,7 +11,7 @@ ghost use Rattle.rbbi_tally.specs.inner.Opening.{FillsPiece, ReadsPiece};
 
 use crate::piece::{FILLED, FULL, Piece};
 use crate::search::search_from;
-use rbbi_table::{Marks, Table};
+use rbbi_table::{FrontPlaces, Table};
 use rbbi_text::{Chars, Steps};
 use std::alloc::{AllocError, Global};
 use std::sync::ledger::Ledger;
@@ -21,7 +21,7 @@ use std::sync::ledger::Ledger;
 pub(crate) struct Opened {
     pub(crate) pieces: Vec<Piece>,
     pub(crate) counts: Vec<u32>,
-    pub(crate) marks: Marks,
+    pub(crate) marks: FrontPlaces,
 }
 
 /// A piece, and the boundary behind it.
@@ -38,7 +38,7 @@ fn fill<T: Chars, L: Ledger>(
     text: &T,
     start: u32,
     counts: &mut [u32],
-    marks: &mut Marks,
+    marks: &mut FrontPlaces,
     steps: &mut Steps<L>,
 ) -> Result<Filled, AllocError>
     requires within { start < length (T.characters text.now) }
@@ -76,7 +76,7 @@ pub(crate) fn segments_of<T: Chars, L: Ledger>(
         steps.old steps.new }
 {
     let len = text.len();
-    let mut marks = Marks::new(alloc, table)?;
+    let mut marks = FrontPlaces::new(alloc, table)?;
     let mut counts = vec![in alloc; 0; table.lists() as usize]?;
     let mut pieces = Vec::new(alloc);
     let mut place = 0;

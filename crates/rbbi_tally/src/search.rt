@@ -15,7 +15,7 @@ use crate::edit::Edit;
 use crate::kept::Kept;
 use crate::piece::Piece;
 use crate::spot::{Spot, place_at, skip};
-use rbbi_table::{Marks, Table};
+use rbbi_table::{FrontPlaces, Table};
 use rbbi_text::{Chars, Steps};
 use std::sync::ledger::Ledger;
 
@@ -28,7 +28,7 @@ pub(crate) fn search_from<T: Chars, L: Ledger>(
     start: u32,
     items: &mut Vec<Kept>,
     counts: &mut [u32],
-    marks: &mut Marks,
+    marks: &mut FrontPlaces,
     steps: &mut Steps<L>,
 ) -> u32
     requires within { place < length (T.characters text.now) }
@@ -108,7 +108,7 @@ pub(crate) fn search_again<T: Chars, L: Ledger>(
     end: u32,
     items: &mut Vec<Kept>,
     counts: &mut [u32],
-    marks: &mut Marks,
+    marks: &mut FrontPlaces,
     steps: &mut Steps<L>,
 ) -> Met
     requires pieces { ArePieces pieces.now }

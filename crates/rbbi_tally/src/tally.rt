@@ -12,7 +12,7 @@ use crate::open::{Opened, segments_of};
 use crate::piece::Piece;
 use crate::search::search_again;
 use crate::spot::{first_reaching, place_at};
-use rbbi_table::{Marks, Table};
+use rbbi_table::{FrontPlaces, Table};
 use rbbi_text::{EditErr, EditText, Steps};
 use std::alloc::{AllocError, Global};
 use std::marker::Model;
@@ -34,7 +34,7 @@ pub struct Tally<'a, T: EditText> {
     /// How many segments have each status list.
     counts: Vec<u32>,
     /// Scratch space of searches.
-    marks: Marks,
+    marks: FrontPlaces,
     /// Where the memory of further pieces comes from.
     alloc: Global,
 }

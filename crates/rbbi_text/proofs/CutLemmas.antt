@@ -321,19 +321,6 @@ room_behind ps last so_far full few = record {
   room = omega arith;
 }
 
--- one more character
-pub so_far_more : (characters : List ℕ) (c : ℕ) (ps : List (List ℕ)) (last : List ℕ) → HaveRoom characters ps last → AreSoFar ps (last ++ c ∷ []) ×
-    (joined ps ++ (last ++ c ∷ []) ≡ characters ++ c ∷ [])
-so_far_more characters c ps last have = (
-  record {
-    full = have.so_far.full;
-    long = have.so_far.long;
-    few = have.so_far.few;
-    small = omega (arith, have.room, length-append last (c ∷ []));
-  },
-  sym (append_assoc (joined ps) last (c ∷ [])) ∙ ap (λ (l : List ℕ). l ++ c ∷ []) have.same,
-)
-
 -- what is needed to find a place
 pub can_find : (ps : List (List ℕ)) (starts : List ℕ) (place : ℕ) → ArePieces ps → starts ≡ starts_from 0 ps → (0 < length starts) ×
     (get_or starts (min (place / 1024) (length starts - 1)) 0 ≤ place)
@@ -348,18 +335,6 @@ taken_longer [] (suc j) k before = omega arith
 taken_longer (p ∷ ps) (suc j) zero before = absurd (omega (arith, before))
 taken_longer (p ∷ ps) (suc j) (suc k) before =
     omega (arith, length-append p (joined (take j ps)), length-append p (joined (take k ps)), taken_longer ps j k (omega (arith, before)))
-
--- starts behind a number
-pub behind_all : (ps : List (List ℕ)) (k removed : ℕ) → removed ≤ length (joined (take k ps)) → (j : ℕ) → j < length (drop k (starts_from 0 ps)) →
-    removed ≤ get_or (drop k (starts_from 0 ps)) j 0
-behind_all ps k removed before j short =
-    let within : k + j < length ps = omega (arith, short, length-drop k (starts_from 0 ps), length-starts 0 ps) in
-    omega (arith, before, get_or-drop k (starts_from 0 ps) j 0, start_is 0 ps (k + j) within, taken_longer ps k (k + j) (omega arith))
-
-pub small_all : (ps : List (List ℕ)) (k j : ℕ) → j < length (drop k (starts_from 0 ps)) → get_or (drop k (starts_from 0 ps)) j 0 ≤ length (joined ps)
-small_all ps k j short =
-    let within : k + j < length ps = omega (arith, short, length-drop k (starts_from 0 ps), length-starts 0 ps) in
-    omega (arith, get_or-drop k (starts_from 0 ps) j 0, start_is 0 ps (k + j) within, length_parted ps (k + j))
 
 -- one piece in place of another
 pub one_piece : (ps : List (List ℕ)) (first : ℕ) (q : List ℕ) → first < length ps → set ps first q ≡ pieces_with ps first (first + 1) (q ∷ [])
@@ -591,27 +566,6 @@ edit_many ps ps' new starts starts' characters w at remove first from past cut w
     (middle_edit ps new characters w at remove first from past (middle.behind_first first short (omega (arith, place))) middle.past_within place' within
     middle.behind middle.same same some filled (λ more. all (middle.enough more)))
     are are'
-
--- starts behind those before them
-pub behind_joined : (a starts : List ℕ) (past removed : ℕ) → ((k : ℕ) → past ≤ k → k < length starts → removed ≤ get_or starts k 0)
-    → (k : ℕ) → length a ≤ k → k < length (a ++ drop past starts) → removed ≤ get_or (a ++ drop past starts) k 0
-behind_joined a starts past removed behind k from short =
-    let place : ℕ = past + (k - length a) in
-    let within : place < length starts = omega (arith, from, short, length-append a (drop past starts), length-drop past starts) in
-    omega (
-      arith,
-      behind place (omega arith) within,
-      get_or-append_right a (drop past starts) (length a) k 0 refl from,
-      get_or-drop past starts
-          (k - length a) 0,
-    )
-
-pub small_joined : (a starts : List ℕ) (past added : ℕ) → ((k : ℕ) → past ≤ k → k < length starts → get_or starts k 0 + added < 2 ^ 32)
-    → (k : ℕ) → length a ≤ k → k < length (a ++ drop past starts) → get_or (a ++ drop past starts) k 0 + added < 2 ^ 32
-small_joined a starts past added small k from short =
-    let place : ℕ = past + (k - length a) in
-    let within : place < length starts = omega (arith, from, short, length-append a (drop past starts), length-drop past starts) in
-    omega (arith, small place (omega arith) within, get_or-append_right a (drop past starts) (length a) k 0 refl from, get_or-drop past starts (k - length a) 0)
 
 pub shift_joined : (a b : List ℕ) (n removed added : ℕ) → length a ≡ n →
     take n (a ++ b) ++ shifted removed added (drop n (a ++ b)) ≡ a ++ shifted removed added b

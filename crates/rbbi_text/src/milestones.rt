@@ -35,8 +35,8 @@ impl Milestones {
         }
     }
 
-    /// Makes those of some items in a unit, in place of those there are.
-    pub(crate) fn make<T: Measure>(&mut self, items: &[T], unit: Unit)
+    /// Replaces them by those of these items in a unit.
+    pub(crate) fn rebuild<T: Measure>(&mut self, items: &[T], unit: Unit)
         requires { sum_by (T.weight unit) items.now < 2 ^ 32 }
         ensures unit { self.new.unit ≡ unit }
         ensures are { AreMilestones (T.weight unit) items.now self.new.sums.items }

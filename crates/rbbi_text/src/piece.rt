@@ -76,15 +76,15 @@ impl Piece {
     }
 
     /// Makes the piece ready for a unit.
-    pub(crate) fn count_in(&mut self, unit: Unit)
+    pub(crate) fn measure_in(&mut self, unit: Unit)
         ensures { self.new ≡ self.old }
     {
         self.size = taken(&self.items, unit);
         self.unit = unit;
     }
 
-    /// Puts the characters of a string in place of those from one place to another. It takes all
-    /// memory before it changes anything.
+    /// Replaces the characters from one place to another by those of a string. If memory runs out,
+    /// they stay as they were.
     pub(crate) fn put(&mut self, start: usize, end: usize, text: &str) -> Result<(), AllocError>
         requires forward { start ≤ end }
         requires within { end ≤ length self.old }

@@ -128,9 +128,8 @@ impl Chars for Pieces {
     }
 }
 
-/// Edits one piece: it puts the characters of a string, `added` of them, in place of `remove`
-/// characters from `from`, and moves the starts behind it. It takes all memory before it changes
-/// anything.
+/// Edits one piece: it replaces `remove` characters from `from` by those of a string, `added` of
+/// them, and moves the starts behind it. If memory runs out, the pieces stay as they were.
 fn edit_piece(
     pieces: &mut Vec<Piece>,
     starts: &mut Vec<u32>,
@@ -173,8 +172,8 @@ fn edit_piece(
     Ok(())
 }
 
-/// Puts pieces in place of those from `first` to the one before `past`, and moves the starts behind
-/// them. It takes all memory before it changes anything.
+/// Replaces the pieces from `first` to the one before `past` by others, and moves the starts behind
+/// them. If memory runs out, the pieces stay as they were.
 fn put_pieces(
     pieces: &mut Vec<Piece>,
     starts: &mut Vec<u32>,
@@ -324,8 +323,8 @@ fn fits(size: usize, from: usize, remove: usize, added: usize, behind: usize) ->
     behind == 0 || size - remove + added >= QUARTER
 }
 
-/// Puts the characters of a string, `added` of them, in place of `remove` characters from a place.
-/// It takes all memory before it changes anything.
+/// Replaces `remove` characters from a place by those of a string, `added` of them. If memory runs
+/// out, the pieces stay as they were.
 fn edit(
     alloc: Global,
     pieces: &mut Vec<Piece>,
@@ -423,11 +422,11 @@ fn index_in(pieces: &[Piece], starts: &[u32], sums: &[u32], unit: Unit, o: u32) 
 }
 
 /// Makes the pieces ready for a unit.
-fn count_in(pieces: &mut Vec<Piece>, unit: Unit)
+fn measure_in(pieces: &mut Vec<Piece>, unit: Unit)
     ensures { pieces.new.items ≡ pieces.old.items }
 {
     for i in 0..pieces.len() {
-        pieces[i].count_in(unit);
+        pieces[i].measure_in(unit);
     }
 }
 
@@ -447,8 +446,8 @@ impl UnitText for Pieces {
         match unit {
             Unit::Chars => {}
             Unit::Utf8 | Unit::Utf16 => {
-                count_in(&mut self.pieces, unit);
-                self.milestones.make(&self.pieces, unit);
+                measure_in(&mut self.pieces, unit);
+                self.milestones.rebuild(&self.pieces, unit);
             }
         }
     }

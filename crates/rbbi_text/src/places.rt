@@ -20,7 +20,7 @@ pub(crate) fn find(starts: &[u32], place: usize) -> usize
     if guess + 1 >= starts.len() || starts[guess + 1] as usize > place {
         return guess;
     }
-    find_behind(starts, guess, place)
+    find_from(starts, guess, place)
 }
 
 /// The number of the piece that a place is in, which is this one or one behind it.
@@ -28,7 +28,7 @@ pub(crate) fn find(starts: &[u32], place: usize) -> usize
 /// It goes on by twice as many each time until it is past the place; then it halves what lies
 /// between.
 #[inline(never)]
-fn find_behind(starts: &[u32], from: usize, place: usize) -> usize
+fn find_from(starts: &[u32], from: usize, place: usize) -> usize
     requires within { from < length starts.now }
     requires begins { slice_index starts.now from ≤ place }
     ensures { IsIn starts.now result place }

@@ -168,8 +168,8 @@ pub(crate) fn added(len: usize, at: u32, remove: u32, insert: &str) -> Result<u3
     Ok(added as u32)
 }
 
-/// Puts the characters of a string in place of those from one place to another. It takes all memory
-/// before it changes anything.
+/// Replaces the characters from one place to another by those of a string. If memory runs out, they
+/// stay as they were.
 pub(crate) fn put(
     items: &mut Vec<char>,
     start: usize,
@@ -209,7 +209,7 @@ impl UnitText for PlainText {
     fn make_ready(&mut self, unit: Unit) {
         match unit {
             Unit::Chars => {}
-            Unit::Utf8 | Unit::Utf16 => self.milestones.make(&self.items, unit),
+            Unit::Utf8 | Unit::Utf16 => self.milestones.rebuild(&self.items, unit),
         }
     }
 

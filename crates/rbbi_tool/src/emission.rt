@@ -22,7 +22,7 @@ use rbbi_command::deliver;
 use rbbi_io::{Files, Sink, WriteErr, put_all, put_when_full};
 use rbbi_script::{Commands, perform, say_bound};
 use rbbi_session::UnitSession;
-use rbbi_table::{Marks, Table};
+use rbbi_table::{FrontPlaces, Table};
 use rbbi_text::{Chars, Pieces, PlainText, Steps, Unit, UnitText};
 use std::alloc::Global;
 use std::sync::ledger::Ledger;
@@ -49,7 +49,7 @@ fn put_boundaries<K: Sink, L: Ledger>(
     rbbi_model::anchors_are_stored();
     rbbi_model::anchors_lead_to_the_boundaries();
     table.valid();
-    let mut marks = Marks::new(alloc, table)?;
+    let mut marks = FrontPlaces::new(alloc, table)?;
     let mut made = Vec::new(alloc);
     say_bound(0, &[0], &mut made)?;
     let mut at = 0;

@@ -21,7 +21,7 @@ use rbbi_filter::{
 use rbbi_io::{Sink, WriteErr, put_all, put_when_full};
 use rbbi_script::{Commands, say_bound};
 use rbbi_session::Session;
-use rbbi_table::{Marks, Table};
+use rbbi_table::{FrontPlaces, Table};
 use rbbi_text::{Chars, Pieces, PlainText, Steps};
 use std::alloc::Global;
 use std::sync::ledger::Ledger;
@@ -76,7 +76,7 @@ fn put_told_boundaries<T: Chars, K: Sink, L: Ledger>(
     rbbi_model::anchors_are_stored();
     rbbi_model::anchors_lead_to_the_boundaries();
     table.valid();
-    let mut marks = Marks::new(alloc, table)?;
+    let mut marks = FrontPlaces::new(alloc, table)?;
     let mut made = Vec::new(alloc);
     say_bound(0, &[0], &mut made)?;
     let mut at = 0;

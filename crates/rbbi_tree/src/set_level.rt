@@ -300,7 +300,7 @@ impl SetLevel {
     }
 
     /// Makes this an outer set, in which another one begins at this place.
-    pub fn into_outer(mut self, place: u32) -> Result<OuterSet, TreeErr>
+    pub fn into_outer_set(mut self, place: u32) -> Result<OuterSet, TreeErr>
         ensures { MatchResult result
             (λ o. (j : Join) × (join_in self.state ≡ Some j)
             × (outer_set_tree o ≡ outer_set (set_level_tree self) j))
@@ -331,7 +331,7 @@ impl SetLevel {
             × (set_tree set ≡ set_from s parts))
             (IsStuckAt place (ended_parts s.state s.parts)) }
     {
-        self.end(place)?;
+        self.add_pending(place)?;
         let SetLevel {
             place,
             negated,
@@ -346,7 +346,7 @@ impl SetLevel {
     }
 
     /// Adds what was read last and is no part yet, where the set may end.
-    fn end(&mut self, place: u32) -> Result<(), TreeErr>
+    fn add_pending(&mut self, place: u32) -> Result<(), TreeErr>
         ensures read { let s = set_level_tree self.old in
             FollowsMachine place (ended_parts s.state s.parts)
             (λ _. (set_level_tree self.new).parts) result }

@@ -2,7 +2,7 @@
 ghost use Rattle.std.specs.Prelude.{◌≡◌, ◌<◌, length, OnSome};
 ghost use Rattle.rbbi_model.specs.Words.{most_characters};
 
-use rbbi_table::{Marks, Table};
+use rbbi_table::{FrontPlaces, Table};
 use rbbi_text::{Chars, PlainText, Steps};
 use std::alloc::{AllocError, Global};
 use std::sync::ledger::Ledger;
@@ -27,7 +27,7 @@ fn search_from<L: Ledger>(
     from: u32,
     steps: &mut Steps<L>,
 ) -> Result<Option<Search>, AllocError> {
-    let mut marks = Marks::new(alloc, table)?;
+    let mut marks = FrontPlaces::new(alloc, table)?;
     let len = text.len();
     if from >= len {
         return Ok(None);

@@ -3,7 +3,7 @@ ghost use Rattle.std.specs.Prelude.{◌≡◌, ◌<◌, ◌≤◌, length};
 
 use crate::tables::table_of;
 use rbbi_conform::{Tests, Verdict, judge, read_tests};
-use rbbi_table::{Marks, Table};
+use rbbi_table::{FrontPlaces, Table};
 use rbbi_text::Steps;
 use std::alloc::Global;
 use std::marker::Brand;
@@ -39,7 +39,7 @@ fn shown_of<L: Ledger>(
     tests: &Tests,
     steps: &mut Steps<L>,
 ) -> Result<String, Fail> {
-    let mut marks = Marks::new(alloc, table)?;
+    let mut marks = FrontPlaces::new(alloc, table)?;
     let mut shown = String::new(alloc);
     for i in 0..tests.len() {
         match judge(table, tests.get(i), &mut marks, steps) {

@@ -2,7 +2,7 @@
 use Rattle.std.specs.Prelude.{◌≡◌, ℕ, ◌+◌, ◌*◌, ◌<◌, ◌⊎◌, ◌↔◌, List, length, slice_index, IsTrue}
 use Rattle.rbbi_model.specs.Places.{has_bit}
 use Rattle.rbbi_bits.specs.BitRows.{Holds}
-use Rattle.rbbi_once.specs.NumberedRows.{listed_row}
+use Rattle.rbbi_bits.specs.NumberedRows.{listed_row}
 use Rattle.rbbi_dfa.specs.inner.PositionRows.{PositionRows}
 
 -- the position may follow one of those that the first so many bits of the word stand for, where it is word i of a set

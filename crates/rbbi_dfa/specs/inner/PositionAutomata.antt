@@ -10,7 +10,7 @@ use Rattle.rbbi_model.specs.Marks.{look_ahead_number}
 use Rattle.rbbi_model.specs.LeafSets.{first_position, SpellsPositions, Reads}
 use Rattle.rbbi_positions.specs.FollowPositions.{IsSpelled}
 use Rattle.rbbi_bits.specs.BitRows.{Holds}
-use Rattle.rbbi_once.specs.NumberedRows.{listed_row}
+use Rattle.rbbi_bits.specs.NumberedRows.{listed_row}
 use Rattle.rbbi_dfa.specs.inner.PositionRows.{PositionMark, PositionRows}
 
 -- the list marks the position so

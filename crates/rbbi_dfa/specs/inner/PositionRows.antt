@@ -2,7 +2,7 @@
 use Rattle.std.specs.Prelude.{◌≡◌, ℕ, ◌<◌, ◌≤◌, List, length}
 use Rattle.std.specs.List.{All, AllPairs}
 use Rattle.rbbi_model.specs.Rules.{largest_tag}
-use Rattle.rbbi_once.specs.NumberedRows.{listed_row}
+use Rattle.rbbi_bits.specs.NumberedRows.{listed_row}
 
 -- what is marked where the position reads the last code point: a number of a look-ahead rule, or a status number
 pub record PositionMark : Type 0 where

@@ -3,7 +3,7 @@ ghost use Rattle.std.specs.Prelude.{◌≡◌, ◌<◌, ◌≤◌, ℕ, length, 
 ghost use Rattle.rbbi_positions.specs.PositionMarks.{followers_in, readers_in};
 ghost use Rattle.rbbi_dfa.specs.inner.MarkedRows.{mark_in, begins_chained, HasOwner, AreMarkedIn};
 ghost use Rattle.rbbi_dfa.specs.inner.MarkedRows.{AreRowsIn, IsChainedRow, AreReadable, AreRowsOf};
-ghost use Rattle.rbbi_once.specs.NumberedRows.{items_of};
+ghost use Rattle.rbbi_bits.specs.NumberedRows.{items_of};
 ghost use Rattle.std.specs.List.{AllPairs};
 ghost use Rattle.std.specs.List.Sorted.{IsPermutation};
 

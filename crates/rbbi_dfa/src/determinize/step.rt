@@ -1,7 +1,7 @@
 //! Which set of positions comes next by a category.
 ghost use Rattle.std.specs.Prelude.{◌≡◌, ◌<◌, ◌+◌, ◌*◌, ℕ, length, IsTrue, false};
 ghost use Rattle.rbbi_bits.specs.BitRows.{Holds, IsSpan};
-ghost use Rattle.rbbi_once.specs.NumberedRows.{listed_row};
+ghost use Rattle.rbbi_bits.specs.NumberedRows.{listed_row};
 ghost use Rattle.rbbi_dfa.specs.inner.Determinizing.{IsStep, IsRow, AreFollowers, Completes};
 ghost use Rattle.rbbi_dfa.specs.inner.Determinizing.{AreFollowersUpTo};
 

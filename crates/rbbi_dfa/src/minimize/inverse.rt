@@ -59,12 +59,18 @@ impl Inverse {
         let place = (category as usize)
             .wrapping_mul(self.rows)
             .wrapping_add(row as usize);
-        let start = if place == 0 { 0 } else { self.end(place - 1) };
-        self.sources.get(start..self.end(place)).unwrap_or(&[])
+        let start = if place == 0 {
+            0
+        } else {
+            self.sources_end(place - 1)
+        };
+        self.sources
+            .get(start..self.sources_end(place))
+            .unwrap_or(&[])
     }
 
     /// Where the sources of a place end, and 0 where there is no such place.
-    fn end(&self, place: usize) -> usize {
+    fn sources_end(&self, place: usize) -> usize {
         self.ends.get(place).copied().unwrap_or(0) as usize
     }
 }

@@ -15,7 +15,7 @@ use crate::tables::table_from;
 use itoa::Buffer;
 use rbbi_command::{Inputs, Options, Output, Refusal, joined};
 use rbbi_conform::{Test, Tests, Verdict, judge};
-use rbbi_table::{Marks, Table};
+use rbbi_table::{FrontPlaces, Table};
 use rbbi_text::{Chars, Steps};
 use std::alloc::{AllocError, Global};
 use std::sync::ledger::Ledger;
@@ -73,7 +73,7 @@ fn report_of<L: Ledger>(
     ensures { IfOk result (λ report. TellsVerdicts table.now tests.now report.lines.items
         report.passed report.failed) }
 {
-    let mut marks = Marks::new(alloc, table)?;
+    let mut marks = FrontPlaces::new(alloc, table)?;
     let mut report = Report {
         lines: Vec::new(alloc),
         passed: 0,

@@ -85,7 +85,7 @@ impl Parser {
     }
 
     /// Takes the statement that a semicolon ends.
-    fn take_ended(&mut self, alloc: Global, place: u32) -> Result<Statement, TreeErr>
+    fn take_finished_statement(&mut self, alloc: Global, place: u32) -> Result<Statement, TreeErr>
         ensures read { let p = progress self.old in FollowsMachine place (at_semi p.head p)
             (λ s. with_statement (statement_tree s) (progress self.new)) result }
         ensures between { OnOk result ((progress self.new).head ≡ between) }
@@ -104,7 +104,7 @@ impl Parser {
     pub(super) fn end_statement(&mut self, alloc: Global, place: u32) -> Result<(), TreeErr>
         ensures { ReadsOutside TokenKind.Semi place self.old result self.new }
     {
-        let statement = self.take_ended(alloc, place)?;
+        let statement = self.take_finished_statement(alloc, place)?;
         self.statements.push(statement)?;
         Ok(())
     }

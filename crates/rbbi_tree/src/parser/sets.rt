@@ -18,7 +18,7 @@ impl Parser {
             innermost,
             mut outers,
         } = sets;
-        let outer = innermost.into_outer(place)?;
+        let outer = innermost.into_outer_set(place)?;
         outers.push(outer)?;
         self.sets = Some(OpenSets {
             innermost: SetLevel::new(alloc, place),

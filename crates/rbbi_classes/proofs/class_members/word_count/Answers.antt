@@ -12,9 +12,9 @@ returns-clause-all c = λ code member.
     let bounds = c.args.layout.now in
     let class = class_of bounds code in
     let within = class-within bounds code in
-    elim (cases_lt (class / 64) c.end.result) [
+    elim (cases_lt (class / 64) c.end_word.result) [
       | inl before ↦ omega (arith, within)
       | inr from ↦
-          let past = word_at-past c.args.set.now (class / 64) (omega (arith, c.end.ensures, from)) in
+          let past = word_at-past c.args.set.now (class / 64) (omega (arith, c.end_word.ensures, from)) in
           absurd (zero-has-none bounds c.args.set.now (class / 64) code past refl member)
     ]

@@ -1,6 +1,6 @@
 use Rattle.std.proofs.Common.{length, ap, arith}
 use Rattle.rbbi_dfa.specs.inner.PositionRows.{PositionRows}
-use Rattle.rbbi_once.specs.NumberedRows.{items_of}
+use Rattle.rbbi_bits.specs.NumberedRows.{items_of}
 use Rattle.rbbi_dfa.proofs.Joined.{is_determinized}
 use Rattle.rbbi_dfa.proofs.determinize.determinized.Goals as goal
 

@@ -1,5 +1,5 @@
 use Rattle.std.proofs.Common.{◌≡◌, ◌<◌, ◌+◌, length, sym, ap, ◌∙◌, subst, inr, arith}
-use Rattle.rbbi_once.specs.NumberedRows.{listed_row}
+use Rattle.rbbi_bits.specs.NumberedRows.{listed_row}
 use Rattle.rbbi_dfa.specs.inner.PositionRows.{PositionRows}
 use Rattle.rbbi_dfa.specs.inner.Determinizing.{AreCellsUpTo, AddsZeros, AddsCells, Completes, AreFollowers}
 use Rattle.rbbi_dfa.specs.inner.LastWords.{AreKept}

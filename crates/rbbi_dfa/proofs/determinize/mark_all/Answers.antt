@@ -1,9 +1,9 @@
 use Rattle.std.proofs.Common.{◌<◌, ◌+◌, ◌^◌, ◌++◌, ◌∷◌, [], ℕ, Vec, Global, refl, sym, ap, ◌∙◌, subst, arith}
 use Rattle.std.proofs.lemmas.List.{map_push}
 use Rattle.rbbi_model.specs.Tables.{RowHead}
-use Rattle.rbbi_once.specs.NumberedRows.{listed_row}
+use Rattle.rbbi_bits.specs.NumberedRows.{listed_row}
 use Rattle.rbbi_dfa.specs.inner.Determinizing.{IsAccept, AreFrontsOf, AreTagsOf, AreMarked}
-use Rattle.rbbi_once.specs.NumberedRows.{items_of}
+use Rattle.rbbi_bits.specs.NumberedRows.{items_of}
 use Rattle.rbbi_dfa.proofs.MarkLoops.{marked_more, no_fronts_small}
 use Rattle.rbbi_dfa.proofs.determinize.mark_all.Goals as goal
 use Rattle.rbbi_dfa.proofs.determinize.mark_all.Goals.{then-accept-lt2, else-accept-lt2}

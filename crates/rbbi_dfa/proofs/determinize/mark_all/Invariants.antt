@@ -1,5 +1,5 @@
 use Rattle.rbbi_dfa.specs.inner.Determinizing.{AreMarked}
-use Rattle.rbbi_once.specs.NumberedRows.{items_of}
+use Rattle.rbbi_bits.specs.NumberedRows.{items_of}
 use Rattle.rbbi_dfa.proofs.determinize.mark_all.Given as goal
 
 abbrev pub invariant-loop-i : goal.invariant-loop-i

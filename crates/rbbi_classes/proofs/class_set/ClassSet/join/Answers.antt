@@ -18,13 +18,13 @@ returns c = λ bounds point.
     let new : ClassBits = bits c.combine.new.self in
     let k : ℕ = class_of bounds point in
     let first : ℕ = c.other.inside.from in
-    let last : ℕ = c.end-last.result in
+    let last : ℕ = c.end_word-last.result in
     let is_first : first ≡ those.from = ap (λ (s : ClassBits). s.from) c.other.view_is in
     let was : class_bit (bits c.in_ok-row.row) k ≡ class_bit these k = c.in_ok-row.ensures.bits k in
     let kept : (k / 64 < first) ⊎ (last ≤ k / 64) → class_bit new k ≡ (class_bit these k || class_bit those k) = λ out.
     c.combine.ensures.outside k out ∙ was
     ∙ or-none (class_bit these k) (class_bit those k) (bit-outside those k
-    (⊎_elim (λ sooner. inl (omega (arith, sooner, is_first))) (λ past. inr (omega (arith, past, c.end-last.ensures.value))) out)) in
+    (⊎_elim (λ sooner. inl (omega (arith, sooner, is_first))) (λ past. inr (omega (arith, past, c.end_word-last.ensures.value))) out)) in
     let each : class_bit new k ≡ (class_bit these k || class_bit those k) =
     ⊎_elim (λ sooner. kept (inl sooner))
     (λ later. ⊎_elim (λ short. c.combine.ensures.inside k later short ∙ ap (λ b. b || class_bit those k) was) (λ past. kept (inr past))

@@ -17,7 +17,7 @@ cuts-preserved c =
     let part : List ℕ = take count piece in
     let begun : from ≤ place = c.cuts.invariant.begun in
     let is_from : from ≡ set.from = c.from-from.ensures in
-    let fits : place + count ≤ c.end-end.result = omega arith in
+    let fits : place + count ≤ c.end_word-end.result = omega arith in
     let at : place - from + count ≡ place + count - from = omega (arith, begun) in
     record {
       begun = omega (arith, begun);
@@ -25,7 +25,7 @@ cuts-preserved c =
       cut =
           ap (flat_map rc_slice_items) c.in_ok-push.ensures.items
           ∙ cut_more rc_slice_items set.words part c.cuts.chunks.items c.in_ok-chunk.field-0 (place - from) count c.cuts.invariant.cut c.in_ok-chunk.ensures
-          (omega (arith, length-take count piece)) (omega (arith, fits, c.end-end.ensures.value, is_from, begun))
+          (omega (arith, length-take count piece)) (omega (arith, fits, c.end_word-end.ensures.value, is_from, begun))
           (λ j short. get_or-take count piece j 0 short ∙ c.piece_at-piece.ensures.words j (omega (arith, short))
           ∙ word_at-from set (place + j) (omega (arith, is_from, begun))
           ∙ ap (λ n. slice_index set.words n) (let e : place + j - set.from ≡ place - from + j = omega (arith, is_from, begun) in e))

@@ -1,9 +1,9 @@
 use Rattle.std.proofs.Common.{◌+◌, ◌*◌, ◌<◌, length, sym, ap, ◌∙◌, subst, arith}
 use Rattle.std.proofs.lemmas.Bool.{false≢true}
-use Rattle.rbbi_once.specs.NumberedRows.{listed_row}
+use Rattle.rbbi_bits.specs.NumberedRows.{listed_row}
 use Rattle.rbbi_dfa.specs.inner.PositionRows.{PositionRows}
 use Rattle.rbbi_dfa.specs.inner.LastWords.{AddsFollowers}
-use Rattle.rbbi_once.proofs.RowLists.{found_row}
+use Rattle.rbbi_bits.proofs.RowLists.{found_row}
 use Rattle.rbbi_dfa.proofs.WordFollowers.{adds_none, adds_with, adds_without, adds_past}
 use Rattle.rbbi_dfa.proofs.determinize.last_words.follow_word.Goals as goal
 use Rattle.rbbi_dfa.proofs.determinize.last_words.follow_word.Goals.{then-position-len+then-is_set, else-position-len}

@@ -1,7 +1,7 @@
 use Rattle.std.proofs.Common.{◌+◌, ℕ, length, Vec, Global, sym, ap, ◌∙◌, subst}
 use Rattle.std.proofs.lemmas.List.{map_push}
 use Rattle.rbbi_positions.specs.PositionMarks.{readers_in}
-use Rattle.rbbi_once.specs.NumberedRows.{items_of}
+use Rattle.rbbi_bits.specs.NumberedRows.{items_of}
 use Rattle.rbbi_dfa.specs.inner.MarkedRows.{AreRowsIn}
 use Rattle.rbbi_dfa.proofs.MarkedLists.{rows_more}
 use Rattle.rbbi_dfa.proofs.determinize.rows_of.read_rows.Goals as goal

@@ -1,5 +1,5 @@
 use Rattle.rbbi_positions.specs.PositionMarks.{readers_in}
-use Rattle.rbbi_once.specs.NumberedRows.{items_of}
+use Rattle.rbbi_bits.specs.NumberedRows.{items_of}
 use Rattle.rbbi_dfa.specs.inner.MarkedRows.{AreRowsIn}
 use Rattle.rbbi_dfa.proofs.determinize.rows_of.read_rows.Given as goal
 

@@ -1,7 +1,7 @@
 use Rattle.std.proofs.Common.{length, sym, ap, ◌∙◌, arith}
-use Rattle.rbbi_once.specs.NumberedRows.{listed_row}
+use Rattle.rbbi_bits.specs.NumberedRows.{listed_row}
 use Rattle.rbbi_dfa.specs.inner.PositionRows.{PositionRows}
-use Rattle.rbbi_once.proofs.RowLists.{items_at, items_many}
+use Rattle.rbbi_bits.proofs.RowLists.{items_at, items_many}
 use Rattle.rbbi_dfa.proofs.determinize.step.readers.Goals as goal
 
 pub returns : goal.returns

@@ -1,7 +1,7 @@
 use Rattle.std.proofs.Common.{ℕ, ◌<◌, ◌↔◌, List, get_or, subst, arith}
 use Rattle.rbbi_bits.specs.BitRows.{Holds}
 use Rattle.rbbi_dfa.specs.inner.LastWords.{FollowsWord}
-use Rattle.rbbi_once.proofs.RowLists.{found_row}
+use Rattle.rbbi_bits.proofs.RowLists.{found_row}
 use Rattle.rbbi_dfa.proofs.Steps.{followers_all}
 use Rattle.rbbi_dfa.proofs.WordFollowers.{followers_word}
 use Rattle.rbbi_dfa.proofs.determinize.last_words.LastWords.follow.Goals as goal

@@ -1,3 +1,0 @@
-pub mod Hashes
-pub mod NumberedRows
-pub mod inner
