@@ -7,7 +7,7 @@ use Rattle.std.proofs.lemmas.Bool.Decides.{Decides-eqb}
 use Rattle.std.proofs.lemmas.Bool.{cases_lt, cases_eq, false≢true}
 use Rattle.std.proofs.lemmas.List.{get_or-replicate, get_or_past, get_or-set_same, get_or-set_other, get_or_append_left, get_or_push, length_push, length-set}
 use Rattle.std.proofs.lemmas.List.{length-replicate}
-use Rattle.rbbi_bits.specs.NumberedRows.{listed_row, IsUnlisted}
+use Rattle.rbbi_bits.specs.NumberedRows.{listed_row}
 use Rattle.rbbi_bits.specs.inner.Index.{bucket_of, IsIndexed}
 
 -- a set that isn't found yet: it is none of those of its bucket from the place on

@@ -1,8 +1,8 @@
 -- A part that is put behind others, where it has an entry and there is room.
-use Rattle.std.proofs.Common.{◌≡◌, ℕ, ◌+◌, ◌<◌, ◌≤◌, false, true, cond, not, eqb, List, [], ◌∷◌, ◌++◌, length, length-append, length-take, take, set, sym}
+use Rattle.std.proofs.Common.{◌≡◌, ℕ, ◌+◌, ◌≤◌, false, cond, not, eqb, List, [], ◌∷◌, ◌++◌, length, length-take, take, set, sym}
 use Rattle.std.proofs.Common.{ap, ◌∙◌, arith}
-use Rattle.std.proofs.lemmas.Bool.{cond-true, cond-false, eq-eqb, ne_eqb}
-use Rattle.std.proofs.lemmas.List.{take-set, take_more_set, take_all, append-nil}
+use Rattle.std.proofs.lemmas.Bool.{cond-false, eq-eqb}
+use Rattle.std.proofs.lemmas.List.{take-set, take_all, append-nil}
 use Rattle.rbbi_model.specs.Runs.{Run}
 use Rattle.rbbi_cache.specs.Kept.{most_runs}
 use Rattle.rbbi_cache.specs.Edits.{has_entries}

@@ -1,5 +1,5 @@
 -- Letters connect the categories of each character, since they do so at the starts of ranges.
-use Rattle.std.proofs.Common.{◌≡◌, ◌⊎◌, ℕ, suc, ◌+◌, ◌-◌, ◌<◌, ◌≤◌, Bool, cond, List, [], ◌∷◌, ◌++◌, length, get_or, refl, ap, sym, ◌∙◌, subst}
+use Rattle.std.proofs.Common.{◌≡◌, ◌⊎◌, ℕ, suc, ◌+◌, ◌-◌, ◌<◌, ◌≤◌, cond, List, [], ◌∷◌, ◌++◌, length, get_or, refl, ap, sym, ◌∙◌, subst}
 use Rattle.std.proofs.Common.{⊎_elim, arith, ltb, leb, below_more}
 use Rattle.std.proofs.lemmas.Bool.{cases_lt, cond-true, cond-false, lt-ltb, le-ltb, le-leb}
 use Rattle.std.proofs.lemmas.List.{get_or_append_left, get_or_push, length_push}
@@ -14,7 +14,7 @@ use Rattle.rbbi_table.proofs.RangeLemmas.{category_held}
 use Rattle.rbbi_canon.specs.declared.letters.Letter.{Letter}
 use Rattle.rbbi_canon.specs.inner.Joins.{JoinsLabels, AreJoinedBy}
 use Rattle.rbbi_canon.specs.inner.Letters.{letter_at, IsLetter, AreLetters, start_or_end, first_character, IsConnected, StayConnected, AreLettersSoFar}
-use Rattle.rbbi_canon.proofs.Sets.{none_joined, one_more, stay}
+use Rattle.rbbi_canon.proofs.Sets.{one_more, stay}
 
 -- some range holds each code point
 holder_from : (range : CategoryRange) (ranges : List CategoryRange) (c : ℕ) → range.start ≤ c → (k : ℕ) × HoldsCodePoint (range ∷ ranges) k c

@@ -1,11 +1,9 @@
 -- The text that leads to a pair, from its end.
-use Rattle.std.proofs.Common.{◌≡◌, ◌≢◌, ◌⊎◌, ℕ, ◌<◌, List, [], ◌∷◌, length, map, refl, ap, sym, ◌∙◌, inl, inr, ⊎_elim, arith}
+use Rattle.std.proofs.Common.{◌≡◌, ◌≢◌, ◌⊎◌, ℕ, ◌<◌, List, [], length, map, ap}
 use Rattle.rbbi_model.specs.Words.{IsText}
-use Rattle.rbbi_model.specs.Tables.{Table, category_of, step, row_along}
-use Rattle.rbbi_canon.specs.declared.letters.Letter.{Letter}
+use Rattle.rbbi_model.specs.Tables.{Table, category_of, row_along}
 use Rattle.rbbi_canon.specs.declared.pairs.Pair.{Pair}
-use Rattle.rbbi_canon.specs.inner.Letters.{letter_at, AreLetters}
-use Rattle.rbbi_canon.specs.inner.Pairs.{pair_at, AreReached, LeadsToPair}
+use Rattle.rbbi_canon.specs.inner.Pairs.{pair_at}
 
 -- the text leads from the one pair to the other
 pub record IsLedFrom (these those : Table) (pairs : List Pair) (at number : ℕ) (w : List ℕ) : Type 0 where

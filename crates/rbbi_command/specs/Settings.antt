@@ -27,11 +27,7 @@ is_property_name name = list_any is_ascii_alphanumeric name && list_all is_prope
 -- an option is of its form: a property file has the name of a property, and a name of its own that isn't empty
 abbrev pub IsSetting : Setting → Type 0
 IsSetting (HandIn property) = (is_property_name property.name ≡ true) × (property.file ≢ [])
-IsSetting IgnoreDictionary = Unit {0}
-IsSetting ByTable = Unit {0}
-IsSetting (CountIn unit) = Unit {0}
-IsSetting (Suppress file) = Unit {0}
-IsSetting (Tailor file) = Unit {0}
+IsSetting setting = Unit {0}
 
 -- the word of a unit
 abbrev pub unit_word : TextUnit → List ℕ
@@ -51,38 +47,22 @@ spelled (Tailor file) = codes "--tailor" ∷ file ∷ []
 -- whether the option hands in a property file
 abbrev pub is_property : Setting → Bool
 is_property (HandIn property) = true
-is_property IgnoreDictionary = false
-is_property ByTable = false
-is_property (CountIn unit) = false
-is_property (Suppress file) = false
-is_property (Tailor file) = false
+is_property setting = false
 
 -- the property file that an option hands in
 abbrev pub property_of : Setting → Option Property
 property_of (HandIn property) = Some property
-property_of IgnoreDictionary = None
-property_of ByTable = None
-property_of (CountIn unit) = None
-property_of (Suppress file) = None
-property_of (Tailor file) = None
+property_of setting = None
 
 -- whether the option lets `$dictionary` be a variable like others
 abbrev pub is_ignoring : Setting → Bool
-is_ignoring (HandIn property) = false
 is_ignoring IgnoreDictionary = true
-is_ignoring ByTable = false
-is_ignoring (CountIn unit) = false
-is_ignoring (Suppress file) = false
-is_ignoring (Tailor file) = false
+is_ignoring setting = false
 
 -- whether the option says that the first operand is a table file
 abbrev pub is_by_table : Setting → Bool
-is_by_table (HandIn property) = false
-is_by_table IgnoreDictionary = false
 is_by_table ByTable = true
-is_by_table (CountIn unit) = false
-is_by_table (Suppress file) = false
-is_by_table (Tailor file) = false
+is_by_table setting = false
 
 -- whether one of the options says that the first operand is a table file
 abbrev pub are_by_table : List Setting → Bool
@@ -90,21 +70,15 @@ are_by_table settings = list_any is_by_table settings
 
 -- whether the option says how boundaries are told: in a unit, or through a filter
 abbrev pub is_telling : Setting → Bool
-is_telling (HandIn property) = false
-is_telling IgnoreDictionary = false
-is_telling ByTable = false
 is_telling (CountIn unit) = true
 is_telling (Suppress file) = true
 is_telling (Tailor file) = true
+is_telling setting = false
 
 -- the unit that an option names
 abbrev pub unit_in : Setting → Option TextUnit
-unit_in (HandIn property) = None
-unit_in IgnoreDictionary = None
-unit_in ByTable = None
 unit_in (CountIn unit) = Some unit
-unit_in (Suppress file) = None
-unit_in (Tailor file) = None
+unit_in setting = None
 
 -- the unit that the options name, or characters where none does
 abbrev pub unit_of : List Setting → TextUnit
@@ -112,12 +86,9 @@ unit_of settings = fold (λ unit setting. unwrap_or (unit_in setting) unit) Char
 
 -- what the filter file has that an option names
 abbrev pub filter_in : Setting → Option FilterKind
-filter_in (HandIn property) = None
-filter_in IgnoreDictionary = None
-filter_in ByTable = None
-filter_in (CountIn unit) = None
 filter_in (Suppress file) = Some Abbreviations
 filter_in (Tailor file) = Some Pairs
+filter_in setting = None
 
 -- what the filter file has that the options name, if they name one
 abbrev pub filter_of : List Setting → Option FilterKind

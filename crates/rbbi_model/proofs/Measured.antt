@@ -13,7 +13,7 @@ use Rattle.rbbi_model.specs.declared.unit.Unit.TheVariants.{Chars, Utf8, Utf16}
 use Rattle.rbbi_model.specs.Boundaries.{Boundary}
 use Rattle.rbbi_model.specs.Cover.{end_of}
 use Rattle.rbbi_model.specs.Units.{size_of, offset_of}
-use Rattle.rbbi_model.specs.Answers.{First, Last, Next, Previous, Following, Preceding, IsBoundary, Reply, Place, Done, Yes, No, Largest, AllOf}
+use Rattle.rbbi_model.specs.Answers.{Last, Next, Previous, Following, Preceding, IsBoundary, Reply, Place, Done, Yes, No, Largest, AllOf}
 use Rattle.rbbi_model.specs.Answers.{Listed, Edited, Outside, Inside, TooLong, Characters, Answer, first_place, last_place, first_after, last_before}
 use Rattle.rbbi_model.specs.Answers.{first_from, statuses_at, moved, answer}
 use Rattle.rbbi_model.proofs.Lists.{all_through}

@@ -13,7 +13,7 @@ use Rattle.rbbi_resolve.specs.inner.Covered.{Respects}
 use Rattle.std.proofs.Common.{IfSome}
 use Rattle.rbbi_props.specs.Rows.{File}
 use Rattle.rbbi_resolve.specs.SetValues.{Passes, property_test, HasProperty}
-use Rattle.rbbi_resolve.specs.inner.SetValues.{HasMembers, IsValue}
+use Rattle.rbbi_resolve.specs.inner.SetValues.{HasMembers}
 use Rattle.rbbi_resolve.specs.inner.ClassValues.{IsClassValue}
 use Rattle.rbbi_resolve.specs.Emptiness.{passes_test, in_property, in_join, in_set, is_no_surrogate, any_below, holds_character}
 use Rattle.rbbi_resolve.specs.Faults.{is_empty_value}

@@ -1,27 +1,21 @@
 -- What was read, before the first statement and behind the last.
-use Rattle.std.proofs.Common.{◌≡◌, ℕ, ◌≤◌, Bool, true, false, if◌then◌else◌, is_some, Option, None, MatchOption, List, [], ◌∷◌}
+use Rattle.std.proofs.Common.{◌≡◌, ℕ, ◌≤◌, Bool, true, false, if◌then◌else◌, is_some, Option, None, List, [], ◌∷◌}
 use Rattle.std.proofs.Common.{drop, length, sum_by, sym, refl, ap, ◌∙◌, subst, arith}
 use Rattle.std.proofs.lemmas.List.{drop_all}
-use Rattle.std.specs.HashMap.{get_by_text}
-use Rattle.std.specs.Rc.{rc_value}
 use Rattle.rbbi_props.specs.Rows.{File}
 use Rattle.rbbi_tree.specs.Trees.{ExprTree, StatementTree}
-use Rattle.rbbi_classes.specs.Divisions.{stand_in}
 use Rattle.rbbi_resolve.specs.declared.fault.Fault.{Fault}
 use Rattle.rbbi_resolve.specs.declared.switches.Switches.{Switches}
 use Rattle.rbbi_resolve.specs.declared.counts.Counts as declared
-use Rattle.rbbi_resolve.specs.Contexts.{Context, assigned_to, variable_of}
+use Rattle.rbbi_resolve.specs.Contexts.{Context, variable_of}
 use Rattle.rbbi_resolve.specs.Expressions.{variable_for}
-use Rattle.rbbi_resolve.specs.Faults.{noted}
-use Rattle.rbbi_resolve.specs.Files.{RuleMeaning, initial_context, with_variable, faults_from, faults_of, rules_from, active_rules}
+use Rattle.rbbi_resolve.specs.Files.{RuleMeaning, initial_context, with_variable, faults_from, rules_from, active_rules}
 use Rattle.rbbi_resolve.specs.inner.Files.{context_at}
 use Rattle.rbbi_resolve.specs.Counts.{size_fault, leaves_meant}
-use Rattle.rbbi_resolve.specs.inner.Contexts.{Variables, IsUnassigned, IsDefinedBy}
+use Rattle.rbbi_resolve.specs.inner.Contexts.{Variables}
 use Rattle.rbbi_resolve.specs.inner.Switchings.{AreSwitches}
 use Rattle.rbbi_resolve.specs.inner.Countings.{AreCounting, slash_of}
 use Rattle.rbbi_resolve.specs.declared.classes.Classes.{Classes}
-use Rattle.rbbi_resolve.specs.inner.ClassValues.{AreRightClasses}
-use Rattle.rbbi_resolve.specs.inner.Covered.{CoversAll}
 use Rattle.rbbi_resolve.specs.inner.Readings.{IsReadTo}
 use Rattle.rbbi_resolve.proofs.Counted.{passed_at_end}
 use Rattle.rbbi_resolve.proofs.Lawful.{within}

@@ -1,8 +1,8 @@
 -- Kinds of moves.
-use Rattle.std.proofs.Common.{◌≡◌, ℕ, ◌<◌, Bool, true, false, cond, ltb, List, refl, sym, ap, ◌∙◌, subst, arith}
+use Rattle.std.proofs.Common.{◌≡◌, ℕ, ◌<◌, Bool, true, false, ltb, List, refl, sym, ap, ◌∙◌, subst}
 use Rattle.std.proofs.Math.Bool.{not, beq}
 use Rattle.rbbi_model.specs.Tables.{RowHead}
-use Rattle.rbbi_table.specs.Kinds.{next_of, ends_plainly, AreKinds}
+use Rattle.rbbi_table.specs.Kinds.{AreKinds}
 
 -- kinds that are the same for each category
 pub same_kinds : {categories : ℕ} {rows : List RowHead} {cells : List ℕ} {row : ℕ} (kind kind' : ℕ → ℕ) →

@@ -2,8 +2,8 @@
 use Rattle.std.specs.Prelude.{ℕ, ◌≡◌, ◌<◌, ◌≤◌, List, [], ◌∷◌, length, take, ◌+◌, ◌-◌}
 use Rattle.rbbi_lex.specs.declared.token.Token.{Token}
 use Rattle.rbbi_lex.specs.declared.token.TokenKind.{TokenKind}
-use Rattle.rbbi_lex.specs.declared.token.TokenKind.TheVariants.{Semi, Equals, Bar, Slash, Caret, Star, Plus, Quest, Dot, ParenOpen, ParenClose, SetOpen}
-use Rattle.rbbi_lex.specs.declared.token.TokenKind.TheVariants.{SetClose, Hyphen, Amp, Char, Quoted, Name, Control, Tag, Prop}
+use Rattle.rbbi_lex.specs.declared.token.TokenKind.TheVariants.{ParenOpen, ParenClose, SetOpen}
+use Rattle.rbbi_lex.specs.declared.token.TokenKind.TheVariants.{SetClose}
 
 -- how many brackets, round and square, are open after a token, where so many were open before it
 abbrev pub open_after : TokenKind → ℕ → ℕ
@@ -11,23 +11,7 @@ open_after ParenOpen open_ones = open_ones + 1
 open_after SetOpen open_ones = open_ones + 1
 open_after ParenClose open_ones = open_ones - 1
 open_after SetClose open_ones = open_ones - 1
-open_after Semi open_ones = open_ones
-open_after Equals open_ones = open_ones
-open_after Bar open_ones = open_ones
-open_after Slash open_ones = open_ones
-open_after Caret open_ones = open_ones
-open_after Star open_ones = open_ones
-open_after Plus open_ones = open_ones
-open_after Quest open_ones = open_ones
-open_after Dot open_ones = open_ones
-open_after Hyphen open_ones = open_ones
-open_after Amp open_ones = open_ones
-open_after (Char c bare) open_ones = open_ones
-open_after (Quoted word) open_ones = open_ones
-open_after (Name word) open_ones = open_ones
-open_after (Control word) open_ones = open_ones
-open_after (Tag status) open_ones = open_ones
-open_after (Prop negated word value) open_ones = open_ones
+open_after kind open_ones = open_ones
 
 -- how many brackets are open after the tokens, where so many were open before them
 abbrev pub open_from : ℕ → List Token → ℕ

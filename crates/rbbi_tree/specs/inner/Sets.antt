@@ -1,8 +1,8 @@
 -- What a token makes of a set that is being read. The grammar knows nothing of it.
 use Rattle.std.specs.Prelude.{ℕ, Bool, true, false, List, [], ◌∷◌, Option, Some, None}
 use Rattle.rbbi_lex.specs.declared.token.TokenKind.{TokenKind}
-use Rattle.rbbi_lex.specs.declared.token.TokenKind.TheVariants.{Semi, Equals, Bar, Slash, Caret, Star, Plus, Quest, Dot, ParenOpen, ParenClose, SetOpen}
-use Rattle.rbbi_lex.specs.declared.token.TokenKind.TheVariants.{SetClose, Hyphen, Amp, Char, Quoted, Name, Control, Tag, Prop}
+use Rattle.rbbi_lex.specs.declared.token.TokenKind.TheVariants.{Caret}
+use Rattle.rbbi_lex.specs.declared.token.TokenKind.TheVariants.{Hyphen, Amp, Char, Name, Prop}
 use Rattle.rbbi_tree.specs.Trees.{SetSyntax, PartsTree, PartTree, SetItemTree, set_of, no_parts, part, joined, set_character, set_range, set_name, set_property}
 use Rattle.rbbi_tree.specs.Trees.{set_within}
 use Rattle.rbbi_tree.specs.Grammar.{hyphen_at}
@@ -57,14 +57,7 @@ settled (Last hyphen) parts = parts
 -- what a caret does
 abbrev pub at_set_caret : SetState → SetLevelTree → Option SetLevelTree
 at_set_caret Opened s = Some (record { place = s.place; negated = true; parts = s.parts; state = Begun })
-at_set_caret Begun s = None
-at_set_caret Apart s = None
-at_set_caret (Character c place) s = None
-at_set_caret (Ranging c place hyphen) s = None
-at_set_caret Operand s = None
-at_set_caret Both s = None
-at_set_caret (Minus hyphen) s = None
-at_set_caret (Last hyphen) s = None
+at_set_caret state s = None
 
 -- what a hyphen does
 abbrev pub at_set_hyphen : ℕ → SetState → SetLevelTree → Option SetLevelTree
@@ -80,15 +73,8 @@ at_set_hyphen at (Last hyphen) s = None
 
 -- what an ampersand does
 abbrev pub at_set_amp : SetState → SetLevelTree → Option SetLevelTree
-at_set_amp Opened s = None
-at_set_amp Begun s = None
-at_set_amp Apart s = None
-at_set_amp (Character c place) s = None
-at_set_amp (Ranging c place hyphen) s = None
 at_set_amp Operand s = Some (level_with s s.parts Both)
-at_set_amp Both s = None
-at_set_amp (Minus hyphen) s = None
-at_set_amp (Last hyphen) s = None
+at_set_amp state s = None
 
 -- what a character does
 abbrev pub at_set_character : ℕ → ℕ → SetState → SetLevelTree → Option SetLevelTree
@@ -127,21 +113,7 @@ at_set_token Amp place s = at_set_amp s.state s
 at_set_token (Char c bare) place s = at_set_character c place s.state s
 at_set_token (Name word) place s = at_set_operand place (set_name word) (join_in s.state) s
 at_set_token (Prop negated word value) place s = at_set_operand place (set_property negated word value) (join_in s.state) s
-at_set_token Semi place s = None
-at_set_token Equals place s = None
-at_set_token Bar place s = None
-at_set_token Slash place s = None
-at_set_token Star place s = None
-at_set_token Plus place s = None
-at_set_token Quest place s = None
-at_set_token Dot place s = None
-at_set_token ParenOpen place s = None
-at_set_token ParenClose place s = None
-at_set_token SetOpen place s = None
-at_set_token SetClose place s = None
-at_set_token (Quoted word) place s = None
-at_set_token (Control word) place s = None
-at_set_token (Tag status) place s = None
+at_set_token kind place s = None
 
 -- the parts of a set that ends, where it may end
 abbrev pub ended_parts : SetState → List PartTree → Option (List PartTree)

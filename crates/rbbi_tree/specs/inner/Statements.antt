@@ -186,18 +186,12 @@ at_slash place (i ∷ is) (s ∷ sequences) groups p = None
 -- what a caret does outside of sets: it begins a rule
 abbrev pub at_caret : ℕ → HeadTree → Progress → Option Progress
 at_caret place between p = Some (with_head (ruling place true) p)
-at_caret place (assigning word at) p = None
-at_caret place (ruling at no_chain_in) p = None
-at_caret place (resting at no_chain_in front slash) p = None
-at_caret place (ended s) p = None
+at_caret place head p = None
 
 -- what a control does: it begins a statement
 abbrev pub at_control : List ℕ → ℕ → HeadTree → Progress → Option Progress
 at_control word place between p = Some (with_head (ended (control word place)) p)
-at_control word place (assigning word' at) p = None
-at_control word place (ruling at no_chain_in) p = None
-at_control word place (resting at no_chain_in front slash) p = None
-at_control word place (ended s) p = None
+at_control word place head p = None
 
 -- the name that is all of an expression so far, if it is one
 abbrev pub sole_name : List SeqTree → List ItemTree → Option (List ℕ)
