@@ -23,7 +23,7 @@ pub(crate) const LIST: usize = 1;
 pub(crate) const ACCEPT: usize = 2;
 
 /// The bit of a move to a row at which some rule ends, and no look-ahead rule.
-pub(crate) const ENDS: u32 = 1;
+const ENDS: u32 = 1;
 
 /// The bit of a move to a row at which a front ends.
 pub(crate) const FRONT_ENDS: u32 = 2;

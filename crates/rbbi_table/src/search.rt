@@ -11,7 +11,7 @@ ghost use Rattle.rbbi_table.specs.Kept.{IsKept};
 
 use crate::blocks::look_up;
 use crate::front_places::note;
-use crate::moves::{ACCEPT, ENDS, FRONT_ENDS, FRONTS, HEAD, LIST, PLACE, STOPS};
+use crate::moves::{ACCEPT, FRONT_ENDS, FRONTS, HEAD, LIST, PLACE, STOPS};
 use crate::short_search::short_search;
 use crate::{Blocks, FrontPlaces, Parts, Table};
 use rbbi_text::{Chars, Steps};
@@ -86,7 +86,8 @@ fn search<T: Chars, L: Ledger>(
         at += 1;
         let cell = moves[row + category as usize];
         row = (cell / PLACE) as usize;
-        if cell / ENDS % 2 == 1 {
+        // The bit of `ENDS`, which is the lowest.
+        if cell % 2 == 1 {
             end = at;
             end_row = row;
         }

@@ -10,7 +10,7 @@ use Rattle.rbbi_table.proofs.ShortSearchLemmas.{IsTurn, inside_row, inside_list,
 use Rattle.rbbi_table.proofs.ShortSearchLemmas.{stops_here, text_ends, turn_behind, turn_on, begins_at, turn_begins}
 use Rattle.rbbi_table.proofs.short_search.short_search.Given.{Over}
 use Rattle.rbbi_table.proofs.short_search.short_search.Goals as goal
-use Rattle.rbbi_table.proofs.short_search.short_search.Goals.{After-place_of, After-place_of-else-next-ne3, After-stretch_from-over}
+use Rattle.rbbi_table.proofs.short_search.short_search.Goals.{After-place_of, After-place_of-else-next-ne-OTHER, After-stretch_from-over}
 
 -- the place of the first character's move
 placed : (g : Over) (c : After-place_of g) →
@@ -69,7 +69,7 @@ stretch_from-over-requires g c =
     record {
       kept = c.requires.kept;
       onward = subst (λ n. IsOnward (table_of c.args.parts.now) x c.args.s n) (sym turn.1)
-          (turn_onward c.requires.kept x c.args.s c.len-len.ensures.text turn.0 c.reading.next c.reading.end c.reading.end_row turn.2 c.if-next-ne3.true);
+          (turn_onward c.requires.kept x c.args.s c.len-len.ensures.text turn.0 c.reading.next c.reading.end c.reading.end_row turn.2 c.if-next-ne-OTHER.true);
       base = move_place c.requires.kept x c.args.s c.len-len.ensures.text c.reading.at c.reading.next
           (subst (λ n. IsMoveTo (table_of c.args.parts.now) x c.args.s n c.reading.next) (sym turn.1) turn.2.move);
     }
@@ -187,9 +187,9 @@ bounds-moves-end_row-then-at-len g c =
 pub returns-then-at-len : goal.returns-then-at-len
 returns-then-at-len g c =
     let turn = c.reading.invariant.turn in
-    let kind = c.if-next-ne3.false in
+    let kind = c.if-next-ne-OTHER.false in
     let finds = text_ends c.requires.kept (g.T.Chars.characters c.args.text.now) c.args.s c.len-len.ensures.text turn.0 c.reading.next c.reading.end
-    c.reading.end_row turn.2 c.if-next-ne3.false c.if-next-eq-STOP-2.false (omega (arith, turn.1, c.if-at-len.true, c.len-len.ensures.exact)) in
+    c.reading.end_row turn.2 c.if-next-ne-OTHER.false c.if-next-eq-STOP-2.false (omega (arith, turn.1, c.if-at-len.true, c.len-len.ensures.exact)) in
     record {
       at = c.longest-then-at-len.ensures.at ∙ finds.at_is;
       status = c.longest-then-at-len.ensures.status ∙ finds.list_is;
@@ -198,16 +198,16 @@ returns-then-at-len g c =
     }
 
 -- the place of a later character's move, where the row begins, and that both lie in the list
-placed_on : (g : Over) (c : After-place_of-else-next-ne3 g) →
-    c.place_of-else-next-ne3.result ≡ in_block c.args.numbers.now c.args.kept.now (get_or (g.T.Chars.characters c.args.text.now) c.reading.at 0) + 1
-placed_on g c = c.place_of-else-next-ne3.ensures ∙ ap (λ n. in_block c.args.numbers.now c.args.kept.now n + 1) c.char_at-else-next-ne3.ensures.character
+placed_on : (g : Over) (c : After-place_of-else-next-ne-OTHER g) →
+    c.place_of-else-next-ne-OTHER.result ≡ in_block c.args.numbers.now c.args.kept.now (get_or (g.T.Chars.characters c.args.text.now) c.reading.at 0) + 1
+placed_on g c = c.place_of-else-next-ne-OTHER.ensures ∙ ap (λ n. in_block c.args.numbers.now c.args.kept.now n + 1) c.char_at-else-next-ne-OTHER.ensures.character
 
-low_on : (g : Over) (c : After-place_of-else-next-ne3 g) → c.reading.at < length (g.T.Chars.characters c.args.text.now)
+low_on : (g : Over) (c : After-place_of-else-next-ne-OTHER g) → c.reading.at < length (g.T.Chars.characters c.args.text.now)
 low_on g c =
     let turn = c.reading.invariant.turn in
     omega (arith, c.if-at-len.false, c.len-len.ensures.exact, turn.1, turn.2.to)
 
-row_on : (g : Over) (c : After-place_of-else-next-ne3 g) →
+row_on : (g : Over) (c : After-place_of-else-next-ne-OTHER g) →
     c.reading.next / 4 * 4 ≡ row_at (table_of c.args.parts.now) (g.T.Chars.characters c.args.text.now) c.args.s c.reading.at * short_stride
     (table_of c.args.parts.now)
 row_on g c =
@@ -216,35 +216,35 @@ row_on g c =
     move_place c.requires.kept x c.args.s c.len-len.ensures.text c.reading.at c.reading.next
     (subst (λ n. IsMoveTo (table_of c.args.parts.now) x c.args.s n c.reading.next) (sym turn.1) turn.2.move)
 
-inside_on : (g : Over) (c : After-place_of-else-next-ne3 g) → c.reading.next / 4 * 4 + c.place_of-else-next-ne3.result < length c.args.moves.now
+inside_on : (g : Over) (c : After-place_of-else-next-ne-OTHER g) → c.reading.next / 4 * 4 + c.place_of-else-next-ne-OTHER.result < length c.args.moves.now
 inside_on g c =
     let x : List ℕ = g.T.Chars.characters c.args.text.now in
     inside_row c.requires.kept x c.args.s c.len-len.ensures.text (row_at (table_of c.args.parts.now) x c.args.s c.reading.at) (c.reading.next / 4 * 4)
-    c.place_of-else-next-ne3.result c.reading.at (within_rows c.requires.kept x c.args.s c.len-len.ensures.text c.reading.at) (row_on g c) (low_on g c)
+    c.place_of-else-next-ne-OTHER.result c.reading.at (within_rows c.requires.kept x c.args.s c.len-len.ensures.text c.reading.at) (row_on g c) (low_on g c)
     (placed_on g c)
 
-pub overflow_add-next-else-next-ne3 : goal.overflow_add-next-else-next-ne3
-overflow_add-next-else-next-ne3 g c =
-    let inside = inside_on g (goal.at.overflow_add-next-else-next-ne3 g c).After-place_of-else-next-ne3 in
+pub overflow_add-next-else-next-ne-OTHER : goal.overflow_add-next-else-next-ne-OTHER
+overflow_add-next-else-next-ne-OTHER g c =
+    let inside = inside_on g (goal.at.overflow_add-next-else-next-ne-OTHER g c).After-place_of-else-next-ne-OTHER in
     let small = c.requires.kept.in_moves.small in
     omega arith
 
 pub offset_bounds-moves-row : goal.offset_bounds-moves-row
 offset_bounds-moves-row g c =
-    let inside = inside_on g (goal.at.offset_bounds-moves-row g c).After-place_of-else-next-ne3 in
+    let inside = inside_on g (goal.at.offset_bounds-moves-row g c).After-place_of-else-next-ne-OTHER in
     let small = c.requires.kept.in_moves.small in
     omega arith
 
 pub bounds-moves-row : goal.bounds-moves-row
-bounds-moves-row g c = inside_on g (goal.at.bounds-moves-row g c).After-place_of-else-next-ne3
+bounds-moves-row g c = inside_on g (goal.at.bounds-moves-row g c).After-place_of-else-next-ne-OTHER
 
 pub reading-preserved : goal.reading-preserved
 reading-preserved g c =
-    let h = (goal.at.reading-preserved g c).After-place_of-else-next-ne3 in
+    let h = (goal.at.reading-preserved g c).After-place_of-else-next-ne-OTHER in
     let turn = c.reading.invariant.turn in
     let x : List ℕ = g.T.Chars.characters c.args.text.now in
-    let next : ℕ = get_or c.args.moves.now (c.reading.next / 4 * 4 + c.place_of-else-next-ne3.result) 0 in
-    let move = move_read c.requires.kept x c.args.s c.len-len.ensures.text c.reading.at (c.reading.next / 4 * 4) c.place_of-else-next-ne3.result
+    let next : ℕ = get_or c.args.moves.now (c.reading.next / 4 * 4 + c.place_of-else-next-ne-OTHER.result) 0 in
+    let move = move_read c.requires.kept x c.args.s c.len-len.ensures.text c.reading.at (c.reading.next / 4 * 4) c.place_of-else-next-ne-OTHER.result
     (omega (arith, turn.1, turn.2.from)) (low_on g h) (row_on g h) (placed_on g h) in
     record {
       turn = (
@@ -252,8 +252,8 @@ reading-preserved g c =
         omega arith,
         subst (λ n. IsTurn (table_of c.args.parts.now) x c.args.s n next c.reading.end c.reading.end_row) (sym turn.1)
             (turn_on c.requires.kept x c.args.s c.len-len.ensures.text turn.0 c.reading.next next c.reading.end c.reading.end_row turn.2
-            c.if-next-ne3.false c.if-next-eq-STOP-2.false (omega (arith, turn.1, low_on g h))
+            c.if-next-ne-OTHER.false c.if-next-eq-STOP-2.false (omega (arith, turn.1, low_on g h))
             (subst (λ n. IsMoveTo (table_of c.args.parts.now) x c.args.s (suc n) next) turn.1 move)),
       );
-      read = omega (arith, c.char_at-else-next-ne3.ensures.step, c.reading.invariant.read, turn.1, turn.2.from);
+      read = omega (arith, c.char_at-else-next-ne-OTHER.ensures.step, c.reading.invariant.read, turn.1, turn.2.from);
     }
