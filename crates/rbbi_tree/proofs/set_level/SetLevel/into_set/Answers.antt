@@ -7,9 +7,9 @@ use Rattle.rbbi_tree.proofs.set_level.SetLevel.into_set.Goals as goal
 
 pub returns : goal.returns
 returns c =
-    let same = c.in_ok-end.ensures.same in (
+    let same = c.in_ok-add_pending.ensures.same in (
       reverse (map part_tree c.add_pending.new.self.parts.items),
-      c.in_ok-end.ensures.read,
+      c.in_ok-add_pending.ensures.read,
       rw (same.0, same.1, parts_from_reverse (map part_tree c.add_pending.new.self.parts.items))
           (set_tree_roll _ ∙ ap (set_of c.args.self.place c.args.self.negated) (parts_tree_roll _)),
     )
