@@ -15,17 +15,17 @@ use Rattle.rbbi_sets.proofs.Rise.{rising-push}
 use Rattle.rbbi_props.specs.inner.RunStarts.{start_of}
 
 -- the value of a code point of the run at a place
-value-here : (runs : List ℕ) (i start c : ℕ) → IsAt runs i start → i < length runs → start ≤ c → c < slice_index runs i / 2048 →
+pub value-here : (runs : List ℕ) (i start c : ℕ) → IsAt runs i start → i < length runs → start ≤ c → c < slice_index runs i / 2048 →
     run_value runs c ≡ slice_index runs i % 2048
 value-here runs i start c at lt low high =
     at.values c low ∙ run_value-drop runs i c lt ∙ step_value-here 0 (unpack (slice_index runs i)) (map unpack (drop (i + 1) runs)) c high
 
 -- the runs end where the code points do
-start-last : (runs : List ℕ) (i start : ℕ) → IsAt runs i start → length runs ≤ i → start ≡ 0x11_0000
+pub start-last : (runs : List ℕ) (i start : ℕ) → IsAt runs i start → length runs ≤ i → start ≡ 0x11_0000
 unfolding ends_rise
 start-last runs i start at le = eqb-true start 0x11_0000 (subst (λ l. ends_rise start l ≡ true) (drop_of_length-le runs le) at.rising)
 
-rise-within : (n : ℕ) (runs : List ℕ) → ends_rise n runs ≡ true → n ≤ 0x11_0000
+pub rise-within : (n : ℕ) (runs : List ℕ) → ends_rise n runs ≡ true → n ≤ 0x11_0000
 unfolding ends_rise
 rise-within n [] h = le_of_eq (eqb-true n 0x11_0000 h)
 rise-within n (run ∷ runs) h =

@@ -4,5 +4,6 @@ pub mod RowLines
 pub mod Files
 pub mod CommonForms
 pub mod Lookups
+pub mod RunRows
 pub mod Refusals
 pub mod inner

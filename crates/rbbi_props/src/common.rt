@@ -86,7 +86,7 @@ fn are_texts_alike(text: &[u8], other: &[u8]) -> bool
 }
 
 /// Whether both have one loose form. Compares in place, since keys are compared at each use.
-fn have_one_loose_form(text: &[u8], other: &[u8]) -> bool
+pub(crate) fn have_one_loose_form(text: &[u8], other: &[u8]) -> bool
     ensures { IsTrue result ↔ (loose text.now ≡ loose other.now) }
 {
     let mut left = text;

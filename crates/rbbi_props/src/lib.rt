@@ -6,6 +6,7 @@ mod error;
 mod file;
 mod loose;
 mod row;
+mod run_file;
 mod runs;
 mod single;
 mod table;
@@ -13,4 +14,5 @@ mod text;
 
 pub use common::{are_alike, push_common_form};
 pub use error::PropErr;
+pub use run_file::has_loose_name;
 pub use table::PropTable;

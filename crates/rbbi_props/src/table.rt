@@ -23,7 +23,7 @@ use std::marker::Model;
 /// The property files that were handed in. Contracts see it as their list.
 #[derive(Debug, Drop)]
 pub struct PropTable {
-    files: Vec<PropFile>,
+    pub(crate) files: Vec<PropFile>,
 }
 
 impl Model for PropTable {
