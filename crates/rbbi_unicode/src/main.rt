@@ -8,9 +8,9 @@
 #![tactic(auto)]
 
 mod files;
-mod values;
 
 use files::{PropertyFile, files};
+use rbbi_builtin::Property;
 use std::io::{self, BufWriter, Write};
 use std::process::ExitCode;
 use std::{env, fs};
@@ -20,9 +20,22 @@ use unicode_segmentation::UnicodeSegmentation;
 /// Writes a line for each file.
 fn list<W: Write>(out: &mut W) -> io::Result<()> {
     for file in &files() {
-        writeln!(out, "{} {}", file.name, file.runs.len())?;
+        writeln!(out, "{} {}", file.name, file.property.runs().len())?;
     }
     Ok(())
+}
+
+/// The name that a value with a number has in files, the first of its names.
+fn value_of(property: Property, number: u32) -> &'static str {
+    let names = property
+        .values()
+        .get(number as usize)
+        .copied()
+        .unwrap_or("");
+    match names.split_once(' ') {
+        Some((first, _)) => first,
+        None => names,
+    }
 }
 
 /// Writes a file: what it is, and a row for each run of a value that is listed.
@@ -45,19 +58,16 @@ fn write_file<W: Write>(out: &mut W, file: &PropertyFile) -> io::Result<()> {
         writeln!(out, "# @missing: 0000..10FFFF; {}", file.unlisted)?;
     }
     let mut first = 0;
-    for run in file.runs {
+    for run in file.property.runs() {
         let end = run / 2048;
-        let value = file
-            .values
-            .get((run % 2048) as usize)
-            .copied()
-            .unwrap_or("");
-        if value != file.unlisted && first < end {
+        let value = value_of(file.property, run % 2048);
+        if value != file.unlisted && !value.is_empty() && first < end {
             let last = end - 1;
+            let field = file.field;
             if first == last {
-                writeln!(out, "{first:04X} ; {value}")?;
+                writeln!(out, "{first:04X} ; {field}{value}")?;
             } else {
-                writeln!(out, "{first:04X}..{last:04X} ; {value}")?;
+                writeln!(out, "{first:04X}..{last:04X} ; {field}{value}")?;
             }
         }
         first = end;
