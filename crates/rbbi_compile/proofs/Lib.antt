@@ -1,0 +1,2 @@
+mod LeastFaults
+mod OneAnswer

@@ -1,0 +1,4 @@
+pub mod Errors
+pub mod Rules
+pub mod Tables
+pub mod Laws
