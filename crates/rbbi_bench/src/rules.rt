@@ -6,14 +6,10 @@ ghost use Rattle.rbbi_text.specs.Bytes.{most_bytes};
 ghost use Rattle.rbbi_resolve.specs.RuleLists.{rules_of};
 
 use rbbi_cats::{Categories, partition};
-use rbbi_dfa::build;
-use rbbi_lex::lex;
-use rbbi_positions::positions;
+use rbbi_compile::{compile, read_rules, rule_text};
 use rbbi_props::PropTable;
-use rbbi_resolve::{Rules, resolve};
+use rbbi_resolve::Rules;
 use rbbi_table::Table;
-use rbbi_text::{count_characters, utf8_text, without_mark};
-use rbbi_tree::parse;
 use std::alloc::Global;
 
 /// The rules of a rule file with no property files, or nothing where it has a fault.
@@ -21,19 +17,11 @@ pub(crate) fn rules_of(alloc: Global, bytes: &[u8]) -> Option<Rules>
     requires { length bytes.now ≤ most_bytes }
     ensures { IfSome result (λ rules. AreLawful (rules_of rules)) }
 {
-    let Ok(text) = utf8_text(bytes) else {
+    let Ok(text) = rule_text(bytes) else {
         return None;
     };
-    let text = without_mark(text);
-    let Ok(tokens) = lex(alloc, text) else {
-        return None;
-    };
-    let end = count_characters(text);
-    let Ok(statements) = parse(alloc, &tokens, end) else {
-        return None;
-    };
-    let props = PropTable::new(alloc);
-    match resolve(alloc, &statements, end, &props, false) {
+    let none = PropTable::new(alloc);
+    match read_rules(alloc, text, &none, false) {
         Ok(rules) => Some(rules),
         Err(_) => None,
     }
@@ -53,16 +41,15 @@ pub(crate) fn categories_of(alloc: Global, bytes: &[u8]) -> Option<(Rules, Categ
     }
 }
 
-/// The table of a rule file with no property files, or nothing where it has a fault or its table is
-/// too large.
+/// The table of a rule file with no property files, or nothing where it has a fault.
 pub(crate) fn table_of(alloc: Global, bytes: &[u8]) -> Option<Table>
     requires { length bytes.now ≤ most_bytes }
 {
-    let (rules, cats) = categories_of(alloc, bytes)?;
-    let Ok(marks) = positions(alloc, &rules, &cats) else {
+    let Ok(text) = rule_text(bytes) else {
         return None;
     };
-    match build(alloc, &marks, &cats) {
+    let none = PropTable::new(alloc);
+    match compile(alloc, text, &none, false) {
         Ok(table) => Some(table),
         Err(_) => None,
     }
