@@ -4,3 +4,4 @@ pub mod Fitting
 pub mod SourceLemmas
 pub mod Reading
 pub mod Delivering
+pub mod Positions

@@ -1,6 +1,6 @@
 -- What ends a run before its output: its exit status and its line.
-use Rattle.std.specs.Prelude.{ℕ, List, [], Option, None, codes}
-use Rattle.rbbi_model.specs.Lines.{usage_line, unread_line, fault_line, fault_line_at, fault_line_in, fault_line_within, rules_name, table_name}
+use Rattle.std.specs.Prelude.{ℕ, List, [], Option, None, Some, codes}
+use Rattle.rbbi_model.specs.Lines.{usage_line, unread_line, fault_line, fault_line_at, fault_line_in, fault_line_within, rules_name, table_name, row_of, column_of}
 use Rattle.rbbi_command.specs.declared.refusal.Subject.{Subject}
 use Rattle.rbbi_command.specs.declared.refusal.Subject.TheVariants.{Rules, OtherRules, Table, File}
 use Rattle.rbbi_command.specs.declared.refusal.Place.{Place}
@@ -22,6 +22,11 @@ pub record Outcome : Type 0 where
 -- all is done, these bytes go out, and no file is written
 abbrev pub printed : List ℕ → Outcome
 printed bytes = record { status = 0; bytes = bytes; file = None }
+
+-- the line and the column of a place of a text, in characters from 0; without one it is the file as a whole
+abbrev pub place_in : List ℕ → Option ℕ → Place
+place_in x None = Whole
+place_in x (Some place) = Within (row_of x place) (column_of x place)
 
 -- the name under which a file's faults are told
 abbrev pub printed_name : Subject → List ℕ

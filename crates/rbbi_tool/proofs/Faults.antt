@@ -18,13 +18,13 @@ use Rattle.rbbi_command.specs.Settings.{Options}
 use Rattle.rbbi_command.specs.Inputs.{Inputs}
 use Rattle.rbbi_tool.specs.Texts.{text_stage}
 use Rattle.rbbi_tool.specs.Properties.{properties_stage, property_files}
-use Rattle.rbbi_tool.specs.Rules.{IsTold, rule_bytes_stage, rules_stage}
+use Rattle.rbbi_tool.specs.Rules.{rules_stage}
 use Rattle.rbbi_text.specs.declared.error.LinesErr.{LinesErr}
 use Rattle.rbbi_text.specs.declared.error.LinesErr.TheVariants as lines
 use Rattle.rbbi_tool.specs.Scripts.{lines_fault}
 use Rattle.rbbi_props.specs.Rows.{File}
-use Rattle.rbbi_tool.specs.Basis.{limits_stage, compiled_stage, compiled_bytes_stage, compiled_text_stage, basis_by}
-use Rattle.rbbi_tool.specs.Command.Same.{told_of_second, as_second, rule_files_stage}
+use Rattle.rbbi_tool.specs.Basis.{compiled_bytes_stage, compiled_with, compiled_stage, basis_by, basis_stage}
+use Rattle.rbbi_tool.specs.Command.Same.{told_of_second, as_second, second_stage}
 use Rattle.rbbi_tool.specs.Filters.{filter_stage, filtered_stage}
 use Rattle.rbbi_tool.specs.Command.Breaks.{breaks_by}
 use Rattle.rbbi_tool.specs.Command.Run.{play_by}
@@ -45,10 +45,6 @@ is_fault : (subject : Subject) (label : List ℕ) (place : Place) (r : Refusal) 
 unfolding IsFault
 is_fault subject label place r is = subst IsFault (sym is) tt
 
-told_fault : {E : Type 0} (Holds : E → Type 0) (label_of : E → List ℕ) (place_of : E → Option ℕ) (x : List ℕ) (r : Refusal)
-    → IsTold Holds label_of place_of x r → IsFault r
-told_fault Holds label_of place_of x r is = is_fault _ _ _ r is.is
-
 -- property files
 properties_fault : (properties : List Property) (handed : List (List ℕ)) → Faults (properties_stage properties handed)
 properties_fault [] handed r never = absurd never
@@ -58,30 +54,21 @@ properties_fault (p ∷ properties) (b ∷ handed) r (inl (inr (u, utf8, (line, 
 properties_fault (p ∷ properties) (b ∷ handed) r (inr (u, passed, is)) = properties_fault properties handed r is
 
 -- rule files
-bytes_fault : (files : List File) (ignored : Bool) (bytes : List ℕ) → Faults (rule_bytes_stage files ignored bytes)
-bytes_fault files ignored bytes r (inl (at, wrong, is)) = is_fault _ _ _ r is
-bytes_fault files ignored bytes r (inr (x, text, inl is)) = told_fault _ _ _ x r is
-bytes_fault files ignored bytes r (inr (x, text, inr (tokens, are, inl is))) = told_fault _ _ _ x r is
-bytes_fault files ignored bytes r (inr (x, text, inr (tokens, are, inr (statements, read, is)))) = told_fault _ _ _ x r is
-
 rules_fault : (options : Options) (inputs : Inputs) → Faults (rules_stage options inputs)
 rules_fault options inputs r (inl is) = properties_fault options.properties inputs.properties r is
-rules_fault options inputs r (inr (u, passed, is)) =
-    bytes_fault (property_files options.properties inputs.properties) options.ignored inputs.rules r is
-
-limits_fault : (rules : List Rule) → Faults (limits_stage rules)
-limits_fault rules r (inl is) = is_fault _ _ _ r is.1
-limits_fault rules r (inr (u, few, is)) = is_fault _ _ _ r is.is
-
-compiled_fault : (options : Options) (inputs : Inputs) → Faults (compiled_stage options inputs)
-compiled_fault options inputs r (inl is) = rules_fault options inputs r is
-compiled_fault options inputs r (inr (rules, mean, inl is)) = limits_fault rules r is
-compiled_fault options inputs r (inr (rules, mean, inr (u, few, never))) = absurd never
+rules_fault options inputs r (inr (u, passed, inl (at, wrong, is))) = is_fault _ _ _ r is
+rules_fault options inputs r (inr (u, passed, inr (x, text, (error, has, is)))) = is_fault _ _ _ r is
 
 compiled_bytes_fault : (files : List File) (ignored : Bool) (bytes : List ℕ) → Faults (compiled_bytes_stage files ignored bytes)
-compiled_bytes_fault files ignored bytes r (inl is) = bytes_fault files ignored bytes r is
-compiled_bytes_fault files ignored bytes r (inr (rules, mean, inl is)) = limits_fault rules r is
-compiled_bytes_fault files ignored bytes r (inr (rules, mean, inr (u, few, never))) = absurd never
+compiled_bytes_fault files ignored bytes r (inl (at, wrong, is)) = is_fault _ _ _ r is
+compiled_bytes_fault files ignored bytes r (inr (x, text, (error, has, is))) = is_fault _ _ _ r is
+
+compiled_with_fault : (options : Options) (inputs : Inputs) → Faults (compiled_with options inputs)
+compiled_with_fault options inputs = compiled_bytes_fault (property_files options.properties inputs.properties) options.ignored inputs.rules
+
+compiled_fault : (options : Options) (inputs : Inputs) → Faults (compiled_stage options inputs)
+compiled_fault options inputs r (inl is) = properties_fault options.properties inputs.properties r is
+compiled_fault options inputs r (inr (u, passed, is)) = compiled_with_fault options inputs r is
 
 -- faults that are told of the second rule file
 second_is_fault : (r : Refusal) → IsFault r → IsFault (told_of_second r)
@@ -97,26 +84,21 @@ second_is_fault Memory is = is
 second_fault : {A : Type 0} (stage : Stage A) → Faults stage → Faults (as_second stage)
 second_fault stage each r (told, refuses, is) = subst IsFault (sym is) (second_is_fault told (each told refuses))
 
-rule_files_fault : (files : List File) (ignored : Bool) (inputs : Inputs) → Faults (rule_files_stage files ignored inputs)
-rule_files_fault files ignored inputs r (inl is) = compiled_bytes_fault files ignored inputs.rules r is
-rule_files_fault files ignored inputs r (inr (rules, mean, inl is)) =
+second_stage_fault : (files : List File) (ignored : Bool) (inputs : Inputs) (rules : List Rule) → Faults (second_stage files ignored inputs rules)
+second_stage_fault files ignored inputs rules r (inl is) =
     second_fault (compiled_bytes_stage files ignored inputs.other_rules) (compiled_bytes_fault files ignored inputs.other_rules) r is
-rule_files_fault files ignored inputs r (inr (rules, mean, inr (others, mean', never))) = absurd never
-
--- the text of built-in rules
-compiled_text_fault : (x : List ℕ) → Faults (compiled_text_stage x)
-compiled_text_fault x r (inl (inl is)) = told_fault _ _ _ x r is
-compiled_text_fault x r (inl (inr (tokens, are, inl is))) = told_fault _ _ _ x r is
-compiled_text_fault x r (inl (inr (tokens, are, inr (statements, read, is)))) = told_fault _ _ _ x r is
-compiled_text_fault x r (inr (rules, mean, inl is)) = limits_fault rules r is
-compiled_text_fault x r (inr (rules, mean, inr (u, few, never))) = absurd never
+second_stage_fault files ignored inputs rules r (inr (others, mean, never)) = absurd never
 
 -- what boundaries come by
-basis_fault : (by_table : Bool) (options : Options) (inputs : Inputs) → Faults (basis_by by_table options inputs)
-basis_fault false options inputs r (inl is) = compiled_fault options inputs r is
-basis_fault false options inputs r (inr (rules, mean, never)) = absurd never
-basis_fault true options inputs r (inl is) = is_fault _ _ _ r is.is
-basis_fault true options inputs r (inr (table, spelled, never)) = absurd never
+by_fault : (by_table : Bool) (options : Options) (inputs : Inputs) → Faults (basis_by by_table options inputs)
+by_fault false options inputs r (inl is) = compiled_with_fault options inputs r is
+by_fault false options inputs r (inr (rules, mean, never)) = absurd never
+by_fault true options inputs r (inl is) = is_fault _ _ _ r is.is
+by_fault true options inputs r (inr (table, spelled, never)) = absurd never
+
+basis_fault : (options : Options) (inputs : Inputs) → Faults (basis_stage options inputs)
+basis_fault options inputs r (inl is) = properties_fault options.properties inputs.properties r is
+basis_fault options inputs r (inr (u, passed, is)) = by_fault options.by_table options inputs r is
 
 -- texts
 text_fault : (text : Input) → Faults (text_stage text)
@@ -137,12 +119,12 @@ filter_fault Pairs file r is = lines_fault_is _ is.error r is.not_memory is.is
 filtered_fault : (kind : FilterKind) (options : Options) (inputs : Inputs) → Faults (filtered_stage kind options inputs)
 filtered_fault kind options inputs r (inl is) = properties_fault options.properties inputs.properties r is
 filtered_fault kind options inputs r (inr (u, passed, inl is)) = filter_fault kind inputs.filter r is
-filtered_fault kind options inputs r (inr (u, passed, inr (filter, read, inl is))) = basis_fault options.by_table options inputs r is
+filtered_fault kind options inputs r (inr (u, passed, inr (filter, read, inl is))) = basis_fault options inputs r is
 filtered_fault kind options inputs r (inr (u, passed, inr (filter, read, inr (basis, found, never)))) = absurd never
 
 -- boundaries and replies, also through a filter
 breaks_fault : (filter : Option FilterKind) (options : Options) (inputs : Inputs) → Faults (breaks_by filter options inputs)
-breaks_fault None options inputs r (inl is) = basis_fault options.by_table options inputs r is
+breaks_fault None options inputs r (inl is) = basis_fault options inputs r is
 breaks_fault None options inputs r (inr (basis, passed, inl is)) = text_fault inputs.text r is
 breaks_fault None options inputs r (inr (basis, passed, inr (x, taken, never))) = absurd never
 breaks_fault (Some kind) options inputs r (inl is) = filtered_fault kind options inputs r is
@@ -150,7 +132,7 @@ breaks_fault (Some kind) options inputs r (inr (filtered, passed, inl is)) = tex
 breaks_fault (Some kind) options inputs r (inr (filtered, passed, inr (x, taken, never))) = absurd never
 
 run_fault : (filter : Option FilterKind) (options : Options) (inputs : Inputs) → Faults (play_by filter options inputs)
-run_fault None options inputs r (inl is) = basis_fault options.by_table options inputs r is
+run_fault None options inputs r (inl is) = basis_fault options inputs r is
 run_fault None options inputs r (inr (basis, passed, inl is)) = text_fault inputs.text r is
 run_fault None options inputs r (inr (basis, passed, inr (x, taken, inl is))) = lines_fault_is _ is.error r is.not_memory is.is
 run_fault None options inputs r (inr (basis, passed, inr (x, taken, inr (commands, read, never)))) = absurd never
@@ -168,18 +150,17 @@ command_fault Compile request inputs r (inl is) = compiled_fault request.options
 command_fault Compile request inputs r (inr (rules, mean, never)) = absurd never
 command_fault Upgrade request inputs r (inl is) = is_fault _ _ _ r is.is
 command_fault Upgrade request inputs r (inr (table, passed, never)) = absurd never
-command_fault Same request inputs r (inl is) = properties_fault request.options.properties inputs.properties r is
-command_fault Same request inputs r (inr (u, passed, is)) =
-    rule_files_fault (property_files request.options.properties inputs.properties) request.options.ignored inputs r is
+command_fault Same request inputs r (inl is) = compiled_fault request.options inputs r is
+command_fault Same request inputs r (inr (rules, mean, is)) = second_stage_fault _ _ inputs rules r is
 command_fault Breaks request inputs r is = breaks_fault request.options.filter request.options inputs r is
 command_fault Run request inputs r is = run_fault request.options.filter request.options inputs r is
-command_fault Tally request inputs r (inl is) = basis_fault request.options.by_table request.options inputs r is
+command_fault Tally request inputs r (inl is) = basis_fault request.options inputs r is
 command_fault Tally request inputs r (inr (basis, passed, inl is)) = text_fault inputs.text r is
 command_fault Tally request inputs r (inr (basis, passed, inr (x, taken, inl is))) = lines_fault_is _ is.error r is.not_memory is.is
 command_fault Tally request inputs r (inr (basis, passed, inr (x, taken, inr (commands, read, never)))) = absurd never
-command_fault Conform request inputs r (inl is) = basis_fault request.options.by_table request.options inputs r is
+command_fault Conform request inputs r (inl is) = basis_fault request.options inputs r is
 command_fault Conform request inputs r (inr (basis, passed, inl is)) = lines_fault_is _ is.error r is.not_memory is.is
 command_fault Conform request inputs r (inr (basis, passed, inr (tests, read, never))) = absurd never
 command_fault Demo request inputs r (inl never) = absurd never
-command_fault Demo request inputs r (inr (count, written, inl is)) = compiled_text_fault _ r is
+command_fault Demo request inputs r (inr (count, written, inl is)) = compiled_bytes_fault _ _ _ r is
 command_fault Demo request inputs r (inr (count, written, inr (rules, passed, never))) = absurd never

@@ -1,4 +1,3 @@
-pub mod Positions
 pub mod StageLemmas
 pub mod Handing
 pub mod Emitting
@@ -17,7 +16,6 @@ pub mod Commands
 pub mod Faults
 pub mod Runs
 pub mod Calls
-pub mod LeastFaults
 pub mod OneReading
 pub mod SameMarks
 pub mod RuleFiles

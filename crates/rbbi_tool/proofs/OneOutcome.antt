@@ -3,7 +3,6 @@ use Rattle.std.proofs.Common.{◌≡◌, ◌≢◌, ◌⊎◌, ◌+◌, inl, inr
 use Rattle.std.proofs.Common.{refl, ap, ◌∙◌}
 use Rattle.std.proofs.Common.{arith}
 use Rattle.std.specs.Prelude.{codes, Result, Err, Ok}
-use Rattle.std.specs.Str.{chars}
 use Rattle.rbbi_model.specs.Rules.{Rule}
 use Rattle.rbbi_model.specs.Boundaries.{Boundary, AreBoundaries}
 use Rattle.rbbi_model.specs.Lines.{boundary_lines, all_reply_lines}
@@ -14,25 +13,11 @@ use Rattle.rbbi_model.specs.Plays.{AreReplies}
 use Rattle.rbbi_model.specs.Scripts as scripts
 use Rattle.rbbi_model.specs.Tables.{Table}
 use Rattle.rbbi_model.specs.Marks.{Marks, AreMarks}
-use Rattle.rbbi_lex.specs.declared.token.Token.{Token}
-use Rattle.rbbi_lex.specs.declared.error.LexErr.{LexErr}
-use Rattle.rbbi_lex.specs.declared.error.LexErr.TheVariants as lexing
-use Rattle.rbbi_lex.specs.Errors as lexer
-use Rattle.rbbi_lex.specs.inner.Errors.{error_of}
-use Rattle.rbbi_lex.specs.Faults as wrong
-use Rattle.rbbi_lex.specs.Lexing.{AreTokens, IsLexFault}
-use Rattle.rbbi_tree.specs.Trees.{StatementTree}
-use Rattle.rbbi_tree.specs.Grammar.{IsFile, HasOneReading}
-use Rattle.rbbi_tree.specs.declared.error.TreeErr.{TreeErr}
-use Rattle.rbbi_tree.specs.Brackets.{IsShallow}
-use Rattle.rbbi_tree.specs.Refusals as parser
 use Rattle.rbbi_props.specs.Rows as rows
-use Rattle.rbbi_resolve.specs.Laws.{HasOneMeaning}
-use Rattle.rbbi_resolve.specs.Refusals as resolver
-use Rattle.rbbi_dfa.specs.declared.error.BuildErr.{BuildErr}
-use Rattle.rbbi_dfa.specs.declared.error.BuildErr.TheVariants as build
-use Rattle.rbbi_dfa.specs.Refusals as builder
-use Rattle.rbbi_dfa.specs.Builds.{BuildsTable, IsWithinLimits}
+use Rattle.rbbi_compile.specs.declared.error.CompileErr.{CompileErr}
+use Rattle.rbbi_compile.specs.Rules.{MeansRules, HasRuleFault}
+use Rattle.rbbi_compile.specs.Tables.{HasTableRules, HasFault}
+use Rattle.rbbi_compile.specs.Laws as compiling
 use Rattle.rbbi_dfa.specs.HaveCanonical.{CompiledTablesHaveCanonical}
 use Rattle.rbbi_canon.specs.Laws.{CanonicalTablesTellMarks}
 use Rattle.rbbi_file.specs.declared.error.FileErr.{FileErr}
@@ -70,16 +55,14 @@ use Rattle.rbbi_command.specs.Words.{Request}
 use Rattle.rbbi_command.specs.Files.{length_stage, lengths_stage, sources_of}
 use Rattle.rbbi_tool.specs.Texts.{TellsNotUtf8, checked_utf8_stage, utf8_stage, count_stage, text_stage}
 use Rattle.rbbi_tool.specs.Properties.{rows_stage, property_stage, properties_stage, property_files}
-use Rattle.rbbi_tool.specs.Rules.{IsTold, fault_at, rule_text_stage, tokens_stage, statements_stage, meaning_stage, rules_of_text_stage, rule_bytes_stage}
-use Rattle.rbbi_tool.specs.Rules.{rules_stage}
-use Rattle.rbbi_tool.specs.Basis.{categories_stage, sizes_stage, limits_stage, compiled_stage, table_place, table_stage}
-use Rattle.rbbi_tool.specs.Basis.{compiled_bytes_stage, compiled_text_stage}
+use Rattle.rbbi_tool.specs.Rules.{fault_in, rule_text_stage, told_stage, rule_bytes_stage, rules_stage}
+use Rattle.rbbi_tool.specs.Basis.{compiled_bytes_stage, compiled_with, compiled_stage, table_place, table_stage}
 use Rattle.rbbi_tool.specs.Basis.{Basis, ByRules, ByTable, AreBoundariesBy, basis_by, basis_stage}
 use Rattle.rbbi_command.specs.Settings.{Options}
 use Rattle.rbbi_command.specs.Inputs.{Inputs, inputs_of}
 use Rattle.rbbi_tool.specs.Command.Check.{counts_line}
 use Rattle.rbbi_tool.specs.Command.Compile.{table_outcome, TellsTable}
-use Rattle.rbbi_tool.specs.Command.Same.{IsComparison, comparison_stage, told_of_second, as_second, rule_files_stage}
+use Rattle.rbbi_tool.specs.Command.Same.{IsComparison, comparison_stage, told_of_second, as_second, second_stage}
 use Rattle.rbbi_tool.specs.Command.Breaks.{boundaries_stage, told_boundaries_stage, breaks_by}
 use Rattle.rbbi_tool.specs.Command.Run.{AreRepliesFrom, replies_stage, told_replies_stage, play_by}
 use Rattle.rbbi_tool.specs.Filters.{FilteredBasis, filter_stage, behind_filter, filtered_stage, AreBoundariesToldBy, AreRepliesToldBy}
@@ -94,19 +77,11 @@ use Rattle.rbbi_tool.proofs.StageLemmas.{IsSettled, settled, determined_both, se
 use Rattle.rbbi_tool.proofs.OneReading.{script_determined, tests_determined, same_verdicts, filter_determined}
 use Rattle.rbbi_tool.proofs.Tallied.{tally_determined}
 use Rattle.rbbi_model.proofs.Replies.{same_from}
-use Rattle.rbbi_tool.proofs.LeastFaults.{same_fault, meaning_excludes}
 use Rattle.rbbi_tool.proofs.SameMarks.{never_both, same_canonical}
 
--- what the lower crates state of tokens, faults, readings and boundaries
+-- what the lower crates state of rules, boundaries and the like
 pub record Laws : Type 0 where
-  pub tokens : (x : List ℕ) (ts us : List Token) → AreTokens x ts → AreTokens x us → ts ≡ us
-  pub faults : (x : List ℕ) (f g : wrong.Fault) (i j : ℕ) → IsLexFault x f i → IsLexFault x g j → (f ≡ g) × (i ≡ j)
-  pub apart : (x : List ℕ) (ts : List Token) (f : wrong.Fault) (i : ℕ) → AreTokens x ts → IsLexFault x f i → ⊥
-  pub readings : (ts : List Token) → HasOneReading ts
-  pub refusals : (ts : List Token) (end : ℕ) (e f : TreeErr) → parser.IsFaultOf ts end e → parser.IsFaultOf ts end f → e ≡ f
-  pub excludes : (ts : List Token) (end : ℕ) (statements : List StatementTree) (e : TreeErr) → IsFile ts statements → IsShallow ts
-      → parser.IsFaultOf ts end e → ⊥
-  pub meanings : HasOneMeaning
+  pub rules : (files : List rows.File) (ignored : Bool) (x : List ℕ) → compiling.HasOneAnswer files ignored x
   pub tables : SpellOneTable
   pub answers : (bytes : List ℕ) (one other : Result Table FileErr) → ReadsTable bytes one → ReadsTable bytes other → one ≢ Err file.Memory
       → other ≢ Err file.Memory → one ≡ other
@@ -207,142 +182,53 @@ second_determined stage is = record {
   apart = λ a r passes (t, refuses, told). is.apart a t passes refuses;
 }
 
--- the limits on tables are passed or not
-limit_twice : (rules : List Rule) (e f : BuildErr) → BuildsTable rules (Err e) → BuildsTable rules (Err f) → e ≢ build.Memory → f ≢ build.Memory → e ≡ f
-limit_twice rules build.TooManySets build.TooManySets is is' some some' = refl
-limit_twice rules build.TooManySets build.TooManyRows is is' some some' = absurd (is'.0 is)
-limit_twice rules build.TooManySets build.TooManyStatuses is is' some some' = absurd (is'.0 is)
-limit_twice rules build.TooManyRows build.TooManySets is is' some some' = absurd (is.0 is')
-limit_twice rules build.TooManyRows build.TooManyRows is is' some some' = refl
-limit_twice rules build.TooManyRows build.TooManyStatuses is is' some some' = absurd (is'.1 is.1)
-limit_twice rules build.TooManyStatuses build.TooManySets is is' some some' = absurd (is.0 is')
-limit_twice rules build.TooManyStatuses build.TooManyRows is is' some some' = absurd (is.1 is'.1)
-limit_twice rules build.TooManyStatuses build.TooManyStatuses is is' some some' = refl
-limit_twice rules build.Memory f is is' some some' = absurd (some refl)
-limit_twice rules build.TooManySets build.Memory is is' some some' = absurd (some' refl)
-limit_twice rules build.TooManyRows build.Memory is is' some some' = absurd (some' refl)
-limit_twice rules build.TooManyStatuses build.Memory is is' some some' = absurd (some' refl)
-
-limit_or_within : (rules : List Rule) (e : BuildErr) → BuildsTable rules (Err e) → e ≢ build.Memory → IsWithinLimits rules → ⊥
-limit_or_within rules build.TooManySets is some within = within.sets is
-limit_or_within rules build.TooManyRows is some within = within.rows is.1
-limit_or_within rules build.TooManyStatuses is some within = within.statuses is.2
-limit_or_within rules build.Memory is some within = some refl
-
-limits_determined : (rules : List Rule) → IsDeterministic (Unit {0}) (limits_stage rules)
-limits_determined rules =
-    determined_both (categories_stage rules) (λ _. sizes_stage rules)
-    (record { value = λ a b is is'. refl; refusal = λ r s is is'. is.1 ∙ sym is'.1; apart = λ a r is is'. is is'.0 })
-    (λ _. record {
-      value = λ a b is is'. refl;
-      refusal = λ r s is is'.
-          is.is
-          ∙ ap (λ e. Fault subject.Rules (builder.label_of e) Whole) (limit_twice rules is.error is'.error is.passed is'.passed is.not_memory is'.not_memory)
-          ∙ sym is'.is;
-      apart = λ a r is is'. limit_or_within rules is'.error is'.passed is'.not_memory is;
-    })
-
 text_determined : (text : Input) → IsDeterministic (List ℕ) (text_stage text)
 text_determined text =
     determined_both (utf8_stage _ text.bytes) (count_stage _) (utf8_determined _ text.bytes) (count_determined _)
 
--- errors of which one holds alone are told alike
-told_once : {E : Type 0} (Holds : E → Type 0) (label_of : E → List ℕ) (place_of : E → Option ℕ) (x : List ℕ)
-    → ((e f : E) (i j : ℕ) → Holds e → place_of e ≡ Some i → Holds f → place_of f ≡ Some j → e ≡ f)
-    → (r s : Refusal) → IsTold Holds label_of place_of x r → IsTold Holds label_of place_of x s → r ≡ s
-told_once Holds label_of place_of x once r s is is' =
-    let same = once is.error is'.error is.place is'.place is.holds is.placed is'.holds is'.placed in
-    let placed : Some is.place ≡ Some is'.place = sym is.placed ∙ ap place_of same ∙ is'.placed in
-    let place : is.place ≡ is'.place = cc in
-    is.is ∙ ap (λ e. fault_at x (label_of e) is.place) same ∙ ap (fault_at x (label_of is'.error)) place ∙ sym is'.is
-
--- the fault of the lexer that an error with a place tells
-record TellsOne (x : List ℕ) (e : LexErr) : Type 0 where
-  fault : wrong.Fault
-  place : ℕ
-  is : IsLexFault x fault place
-  error_is : e ≡ error_of fault place
-
-tells_one : (x : List ℕ) (e : LexErr) (i : ℕ) → lexer.TellsFault x e → lexer.place_of e ≡ Some i → TellsOne x e
-tells_one x (lexing.BadChar place) i stops placed = record { fault = wrong.BadChar; place = place; is = stops; error_is = refl }
-tells_one x (lexing.BadEscape place) i stops placed = record { fault = wrong.BadEscape; place = place; is = stops; error_is = refl }
-tells_one x (lexing.OpenQuote place) i stops placed = record { fault = wrong.OpenQuote; place = place; is = stops; error_is = refl }
-tells_one x (lexing.OpenProperty place) i stops placed = record { fault = wrong.OpenProperty; place = place; is = stops; error_is = refl }
-tells_one x (lexing.BadTag place) i stops placed = record { fault = wrong.BadTag; place = place; is = stops; error_is = refl }
-tells_one x (lexing.BadName place) i stops placed = record { fault = wrong.BadName; place = place; is = stops; error_is = refl }
-tells_one x lexing.Memory i stops placed = absurd cc
+-- what a rule file comes to is determined, where its text has one list of rules or one fault
+rule_file_determined : (HasRules : List ℕ → List Rule → Type 0) (HasFault : List ℕ → CompileErr → Type 0) (bytes : List ℕ)
+    → ((x : List ℕ) (these those : List Rule) → HasRules x these → HasRules x those → these ≡ those)
+    → ((x : List ℕ) (e f : CompileErr) → HasFault x e → HasFault x f → e ≡ f)
+    → ((x : List ℕ) (rules : List Rule) (e : CompileErr) → HasRules x rules → HasFault x e → ⊥)
+    → IsDeterministic (List Rule) (followed_by (rule_text_stage bytes) (told_stage HasRules HasFault))
+rule_file_determined HasRules HasFault bytes one_list one_fault never =
+    determined_both (rule_text_stage bytes) (told_stage HasRules HasFault)
+    (record {
+      value = λ x y is is'. is.1 ∙ sym is'.1;
+      refusal = not_utf8_once subject.Rules bytes;
+      apart = λ x r is (at, wrong, told). wrong.not_utf8 is.0;
+    })
+    (λ x. record {
+      value = one_list x;
+      refusal = λ r s (e, has, is) (f, has', is'). is ∙ ap (fault_in x) (one_fault x e f has has') ∙ sym is';
+      apart = λ rules r means (e, has, is). never x rules e means has;
+    })
 
 module _ (laws : Laws) where
-  -- the first fault of the characters is determined
-  same_stop : (x : List ℕ) (f g : LexErr) (i j : ℕ) → lexer.TellsFault x f → lexer.place_of f ≡ Some i → lexer.TellsFault x g → lexer.place_of g ≡ Some j
-      → f ≡ g
-  same_stop x f g i j stops placed stops' placed' =
-      let one = tells_one x f i stops placed in
-      let other = tells_one x g j stops' placed' in
-      let same = laws.faults x one.fault other.fault one.place other.place one.is other.is in
-      one.error_is ∙ ap (λ fault. error_of fault one.place) same.0 ∙ ap (λ place. error_of other.fault place) same.1 ∙ sym other.error_is
-
-  tokens_determined : (x : List ℕ) → IsDeterministic (List Token) (tokens_stage x)
-  tokens_determined x = record {
-    value = laws.tokens x;
-    refusal = told_once (lexer.TellsFault x) lexer.label_of lexer.place_of x (same_stop x);
-    apart = λ ts r are is. let one = tells_one x is.error is.place is.holds is.placed in laws.apart x ts one.fault one.place are one.is;
-  }
-
-  statements_determined : (x : List ℕ) (ts : List Token) → IsDeterministic (List StatementTree) (statements_stage x ts)
-  statements_determined x ts = record {
-    value = λ f g is is'. laws.readings ts f g is.0 is'.0;
-    refusal = told_once (parser.IsRefusalOf ts (length x)) parser.label_of parser.place_of x
-        (λ e f i j is placed is' placed'. laws.refusals ts (length x) e f (is, ap is_some placed) (is', ap is_some placed'));
-    apart = λ f r is is'. laws.excludes ts (length x) f is'.error is.0 is.1 (is'.holds, ap is_some is'.placed);
-  }
-
-  -- what the statements mean is determined
-  meaning_determined : (files : List rows.File) (ignored : Bool) (x : List ℕ) (statements : List StatementTree)
-      → IsDeterministic (List Rule) (meaning_stage files ignored x statements)
-  meaning_determined files ignored x statements = record {
-    value = laws.meanings files ignored statements;
-    refusal = told_once (resolver.IsRefusedFor files ignored statements (length x)) resolver.label_of resolver.place_of x
-        (λ e f i j is placed is' placed'. same_fault _ _ e f i j is placed is' placed');
-    apart = λ rules r means is. meaning_excludes files ignored statements rules (length x) is.error is.place means is.holds is.placed;
-  }
-
-  -- what the text of rules comes to is determined, and what a rule file comes to
-  rule_text_determined : (files : List rows.File) (ignored : Bool) (x : List ℕ) → IsDeterministic (List Rule) (rules_of_text_stage files ignored x)
-  rule_text_determined files ignored x =
-      determined_both (tokens_stage x) (λ ts. followed_by (statements_stage x ts) (meaning_stage files ignored x)) (tokens_determined x)
-      (λ ts. determined_both (statements_stage x ts) (meaning_stage files ignored x) (statements_determined x ts) (meaning_determined files ignored x))
-
-  rule_bytes_determined : (files : List rows.File) (ignored : Bool) (bytes : List ℕ) → IsDeterministic (List Rule) (rule_bytes_stage files ignored bytes)
-  rule_bytes_determined files ignored bytes =
-      determined_both (rule_text_stage bytes) (rules_of_text_stage files ignored)
-      (record {
-        value = λ x y is is'. is.1 ∙ sym is'.1;
-        refusal = not_utf8_once subject.Rules bytes;
-        apart = λ x r is (at, wrong, told). wrong.not_utf8 is.0;
-      })
-      (rule_text_determined files ignored)
-
+  -- what a rule file comes to is determined
   rules_determined : (options : Options) (inputs : Inputs) → IsDeterministic (List Rule) (rules_stage options inputs)
   rules_determined options inputs =
       let files : List rows.File = property_files options.properties inputs.properties in
-      determined_both (properties_stage options.properties inputs.properties) (λ _. rule_bytes_stage files options.ignored inputs.rules)
-      (properties_determined options.properties inputs.properties) (λ _. rule_bytes_determined files options.ignored inputs.rules)
-
-  -- what the table of rules comes to is determined
-  table_of_determined : (stage : Stage (List Rule)) → IsDeterministic (List Rule) stage
-      → IsDeterministic (List Rule) (followed_by stage (λ rules. followed_by (limits_stage rules) (λ _. gives rules)))
-  table_of_determined stage is =
-      determined_both stage (λ rules. followed_by (limits_stage rules) (λ _. gives rules)) is
-      (λ rules. determined_both (limits_stage rules) (λ _. gives rules) (limits_determined rules) (λ _. gives_determined rules))
-
-  compiled_determined : (options : Options) (inputs : Inputs) → IsDeterministic (List Rule) (compiled_stage options inputs)
-  compiled_determined options inputs = table_of_determined (rules_stage options inputs) (rules_determined options inputs)
+      let ignored = options.ignored in
+      determined_both (properties_stage options.properties inputs.properties) (λ _. rule_bytes_stage files ignored inputs.rules)
+      (properties_determined options.properties inputs.properties)
+      (λ _.
+      rule_file_determined (MeansRules files ignored) (HasRuleFault files ignored) inputs.rules (λ x. (laws.rules files ignored x).rules)
+      (λ x. (laws.rules files ignored x).rule_fault) (λ x. (laws.rules files ignored x).no_rules))
 
   compiled_bytes_determined : (files : List rows.File) (ignored : Bool) (bytes : List ℕ)
       → IsDeterministic (List Rule) (compiled_bytes_stage files ignored bytes)
   compiled_bytes_determined files ignored bytes =
-      table_of_determined (rule_bytes_stage files ignored bytes) (rule_bytes_determined files ignored bytes)
+      rule_file_determined (HasTableRules files ignored) (HasFault files ignored) bytes
+      (λ x these those has has'. (laws.rules files ignored x).rules these those has.mean has'.mean) (λ x. (laws.rules files ignored x).fault)
+      (λ x. (laws.rules files ignored x).no_table)
+
+  compiled_determined : (options : Options) (inputs : Inputs) → IsDeterministic (List Rule) (compiled_stage options inputs)
+  compiled_determined options inputs =
+      let files : List rows.File = property_files options.properties inputs.properties in
+      determined_both (properties_stage options.properties inputs.properties) (λ _. compiled_with options inputs)
+      (properties_determined options.properties inputs.properties) (λ _. compiled_bytes_determined files options.ignored inputs.rules)
 
   -- what a table file comes to is determined
   err_same : (e f : FileErr) → (let this : Result Table FileErr = Err e in this) ≡ Err f → e ≡ f
@@ -359,13 +245,19 @@ module _ (laws : Laws) where
         absurd cc;
   }
 
-  basis_determined : (by_table : Bool) (options : Options) (inputs : Inputs) → IsDeterministic Basis (basis_by by_table options inputs)
-  basis_determined false options inputs =
-      determined_both (compiled_stage options inputs) (λ rules. gives (ByRules rules)) (compiled_determined options inputs)
+  by_determined : (by_table : Bool) (options : Options) (inputs : Inputs) → IsDeterministic Basis (basis_by by_table options inputs)
+  by_determined false options inputs =
+      let files : List rows.File = property_files options.properties inputs.properties in
+      determined_both (compiled_with options inputs) (λ rules. gives (ByRules rules)) (compiled_bytes_determined files options.ignored inputs.rules)
       (λ rules. gives_determined (ByRules rules))
-  basis_determined true options inputs =
+  by_determined true options inputs =
       determined_both (table_stage inputs.table) (λ table. gives (ByTable table)) (table_determined inputs.table)
       (λ table. gives_determined (ByTable table))
+
+  basis_determined : (options : Options) (inputs : Inputs) → IsDeterministic Basis (basis_stage options inputs)
+  basis_determined options inputs =
+      determined_both (properties_stage options.properties inputs.properties) (λ _. basis_by options.by_table options inputs)
+      (properties_determined options.properties inputs.properties) (λ _. by_determined options.by_table options inputs)
 
   -- boundaries are determined
   same_boundaries : (basis : Basis) (x : List ℕ) (these those : List Boundary) → AreBoundariesBy basis x these → AreBoundariesBy basis x those → these ≡ those
@@ -409,7 +301,7 @@ module _ (laws : Laws) where
       determined_both (filter_stage kind inputs.filter) (behind_filter options inputs) (filter_file_determined kind inputs.filter)
       (λ filter.
       determined_both (basis_stage options inputs) (λ basis. gives (record { filter = filter; basis = basis }))
-      (basis_determined options.by_table options inputs) (λ basis. gives_determined (record { filter = filter; basis = basis }))))
+      (basis_determined options inputs) (λ basis. gives_determined (record { filter = filter; basis = basis }))))
 
   -- boundaries and replies that are told are determined
   same_told : (basis : Basis) (filter : Filter) (x : List ℕ) (these those : List Boundary) → AreBoundariesToldBy basis filter x these
@@ -499,23 +391,12 @@ module _ (laws : Laws) where
   comparison_settled rules others =
       record { value = compared_alike rules others; refusal = λ r s is is'. absurd is; apart = λ o r is is'. is' }
 
-  -- two rule files are settled
-  rule_files_settled : (files : List rows.File) (ignored : Bool) (inputs : Inputs) → IsSettled Outcome AreAlike (rule_files_stage files ignored inputs)
-  rule_files_settled files ignored inputs =
-      let second = as_second (compiled_bytes_stage files ignored inputs.other_rules) in
-      settled_both (compiled_bytes_stage files ignored inputs.rules) (λ rules. followed_by second (comparison_stage rules)) AreAlike
-      (compiled_bytes_determined files ignored inputs.rules)
-      (λ rules mean.
-      settled_both second (comparison_stage rules) AreAlike
-      (second_determined (compiled_bytes_stage files ignored inputs.other_rules) (compiled_bytes_determined files ignored inputs.other_rules))
-      (λ others mean'. comparison_settled rules others))
-
   -- what comes by a basis is determined
   by_basis : (options : Options) (inputs : Inputs) (next : Basis → Stage Outcome) → ((basis : Basis) → IsDeterministic Outcome (next basis))
       → IsSettled Outcome AreAlike (followed_by (basis_stage options inputs) next)
   by_basis options inputs next each =
       settled AreAlike (followed_by (basis_stage options inputs) next) alike
-      (determined_both (basis_stage options inputs) next (basis_determined options.by_table options inputs) each)
+      (determined_both (basis_stage options inputs) next (basis_determined options inputs) each)
 
   -- what comes through a filter is settled
   by_filter : (kind : FilterKind) (options : Options) (inputs : Inputs) (next : FilteredBasis → List ℕ → Stage Outcome)
@@ -567,9 +448,9 @@ module _ (laws : Laws) where
   command_settled Demo request inputs =
       let word : List ℕ = nth request.operands 0 in
       settled AreAlike (command_stage Demo request inputs) alike
-      (determined_both (number_stage word) (λ count. followed_by (compiled_text_stage (chars demo_rules)) (summary_stage count)) (number_determined word)
-      (λ count. determined_both (compiled_text_stage (chars demo_rules)) (summary_stage count)
-      (table_of_determined (rules_of_text_stage [] false (chars demo_rules)) (rule_text_determined [] false (chars demo_rules))) (summary_determined count)))
+      (determined_both (number_stage word) (λ count. followed_by (compiled_bytes_stage [] false demo_rules) (summary_stage count)) (number_determined word)
+      (λ count. determined_both (compiled_bytes_stage [] false demo_rules) (summary_stage count)
+      (compiled_bytes_determined [] false demo_rules) (summary_determined count)))
   command_settled Check request inputs =
       settled AreAlike (command_stage Check request inputs) alike
       (determined_both (rules_stage request.options inputs) (λ rules. gives (printed (counts_line rules)))
@@ -589,8 +470,13 @@ module _ (laws : Laws) where
       }))
   command_settled Same request inputs =
       let files : List rows.File = property_files request.options.properties inputs.properties in
-      settled_both (properties_stage request.options.properties inputs.properties) (λ _. rule_files_stage files request.options.ignored inputs) AreAlike
-      (properties_determined request.options.properties inputs.properties) (λ _ passed. rule_files_settled files request.options.ignored inputs)
+      let ignored = request.options.ignored in
+      let second = as_second (compiled_bytes_stage files ignored inputs.other_rules) in
+      settled_both (compiled_stage request.options inputs) (second_stage files ignored inputs) AreAlike (compiled_determined request.options inputs)
+      (λ rules mean.
+      settled_both second (comparison_stage rules) AreAlike
+      (second_determined (compiled_bytes_stage files ignored inputs.other_rules) (compiled_bytes_determined files ignored inputs.other_rules))
+      (λ others mean'. comparison_settled rules others))
 
   -- a run over files that tell what they hold is settled
   run_settled : (words : List (List ℕ)) (held : List ℕ → List ℕ) → IsSettled Outcome AreAlike (run_stage words held)

@@ -4,7 +4,7 @@ use Rattle.std.specs.Prelude.{Result, Ok, Err}
 use Rattle.rbbi_command.specs.declared.refusal.Refusal.{Refusal}
 use Rattle.rbbi_command.specs.declared.refusal.Refusal.TheVariants.{Memory}
 use Rattle.rbbi_command.specs.Stages.{Stage, followed_by}
-use Rattle.rbbi_tool.specs.inner.Stages.{Meets, IsDeterministic}
+use Rattle.rbbi_tool.specs.inner.Stages.{Meets, Serves, IsDeterministic}
 
 -- the stage doesn't both pass and refuse, it refuses in one way alone, and values that it passes with are so related
 pub record IsSettled (A : Type 0) (R : A → A → Type 0) (stage : Stage A) : Type 0 where
@@ -31,6 +31,12 @@ module _ {A B : Type 0} (first : Stage A) (next : A → Stage B) where
       (followed_by first next) result
   goes_on view a (Ok v) passed met = (a, passed, met)
   goes_on view a (Err refusal) passed met = stops_next a refusal passed met
+
+  -- the first stage passes, and the next serves
+  pub serves_on : {V : Type 0} (related : V → B → Type 0) (a : A) (result : Result V Refusal) → first.passes a → Serves related (next a) result
+      → Serves related (followed_by first next) result
+  serves_on related a (Ok v) passed (b, is, so) = (b, (a, passed, is), so)
+  serves_on related a (Err refusal) passed met = stops_next a refusal passed met
 
   -- of a determined stage and a settled one the row is settled
   pub settled_both : (R : B → B → Type 0) → IsDeterministic A first → ((a : A) → first.passes a → IsSettled B R (next a)) → IsSettled B R

@@ -11,13 +11,7 @@ pub fn outcomes_are_unique()
     ensures { (words : List (List ℕ)) (held : List ℕ → List ℕ) → HasOneOutcome words held }
 {
     rbbi_model::boundaries_are_unique();
-    rbbi_lex::tokens_are_unique();
-    rbbi_lex::faults_are_unique();
-    rbbi_lex::tokens_exclude_faults();
-    rbbi_tree::at_most_one_reading();
-    rbbi_tree::at_most_one_refusal();
-    rbbi_tree::file_excludes_fault();
-    rbbi_resolve::at_most_one_meaning();
+    rbbi_compile::one_table_or_fault();
     rbbi_file::spellings_tell_the_table();
     rbbi_file::one_answer();
     rbbi_model::replies_are_unique();

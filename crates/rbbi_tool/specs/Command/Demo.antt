@@ -1,6 +1,5 @@
 -- What `demo` answers.
-use Rattle.std.specs.Prelude.{◌≡◌, ℕ, List, codes}
-use Rattle.std.specs.Str.{chars}
+use Rattle.std.specs.Prelude.{◌≡◌, ℕ, false, List, [], codes}
 use Rattle.rbbi_model.specs.Rules.{Rule}
 use Rattle.rbbi_model.specs.Boundaries.{AreBoundaries}
 use Rattle.rbbi_model.specs.Lines.{demo_line}
@@ -9,7 +8,7 @@ use Rattle.rbbi_demo.specs.Summaries.{IsSummary}
 use Rattle.rbbi_command.specs.Stages.{Stage, followed_by}
 use Rattle.rbbi_command.specs.Refusals.{Outcome, printed}
 use Rattle.rbbi_command.specs.Counts.{IsCount}
-use Rattle.rbbi_tool.specs.Basis.{compiled_text_stage}
+use Rattle.rbbi_tool.specs.Basis.{compiled_bytes_stage}
 
 -- the text of the built-in rules
 unfoldable pub demo_rules : List ℕ
@@ -33,6 +32,6 @@ pub record TellsSummary (count : ℕ) (rules : List Rule) (outcome : Outcome) : 
 abbrev pub summary_stage : ℕ → List Rule → Stage Outcome
 summary_stage count rules = record { passes = TellsSummary count rules; refuses = λ _. ⊥ }
 
--- the demonstration of the number that the word writes, by the rules that the built-in text means
+-- the demonstration of the number that the word writes, by the built-in rules
 abbrev pub demo_stage : List ℕ → Stage Outcome
-demo_stage word = followed_by (number_stage word) (λ count. followed_by (compiled_text_stage (chars demo_rules)) (summary_stage count))
+demo_stage word = followed_by (number_stage word) (λ count. followed_by (compiled_bytes_stage [] false demo_rules) (summary_stage count))

@@ -13,8 +13,8 @@ use Rattle.rbbi_command.specs.declared.refusal.Refusal.{Refusal}
 use Rattle.rbbi_command.specs.declared.refusal.Refusal.TheVariants.{Fault}
 use Rattle.rbbi_command.specs.Stages.{Stage, followed_by}
 use Rattle.rbbi_command.specs.Refusals.{Outcome, printed}
-use Rattle.rbbi_tool.specs.Properties.{properties_stage, property_files}
-use Rattle.rbbi_tool.specs.Basis.{compiled_bytes_stage}
+use Rattle.rbbi_tool.specs.Properties.{property_files}
+use Rattle.rbbi_tool.specs.Basis.{compiled_bytes_stage, compiled_stage}
 
 -- there are marks that the text has by both rules
 abbrev pub AgreeAfter : List Rule → List Rule → List ℕ → Type 0
@@ -90,13 +90,8 @@ abbrev pub second_stage : List File → Bool → Inputs → List Rule → Stage 
 second_stage files ignored inputs rules =
     followed_by (as_second (compiled_bytes_stage files ignored inputs.other_rules)) (comparison_stage rules)
 
--- two rule files, with these property files: the first, then the second, and then whether they have the same marks
-abbrev pub rule_files_stage : List File → Bool → Inputs → Stage Outcome
-rule_files_stage files ignored inputs =
-    followed_by (compiled_bytes_stage files ignored inputs.rules) (second_stage files ignored inputs)
-
--- whether two rule files have the same marks, behind the property files that are handed in for both
+-- whether two rule files have the same marks, with the property files that are handed in for both: the first, and then the second
 abbrev pub same_stage : Options → Inputs → Stage Outcome
 same_stage options inputs =
-    followed_by (properties_stage options.properties inputs.properties)
-    (λ _. rule_files_stage (property_files options.properties inputs.properties) options.ignored inputs)
+    followed_by (compiled_stage options inputs)
+    (second_stage (property_files options.properties inputs.properties) options.ignored inputs)

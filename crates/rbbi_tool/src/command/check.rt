@@ -8,7 +8,8 @@ ghost use Rattle.rbbi_command.specs.Inputs.{inputs_in, AreShort};
 ghost use Rattle.rbbi_tool.specs.Command.Check as spec;
 
 use crate::prepared::Prepared;
-use crate::rules::rules_from;
+use crate::properties::properties_of;
+use crate::rules::rules_of_bytes;
 use itoa::Buffer;
 use rbbi_command::{Inputs, Options, Output, Refusal, joined};
 use rbbi_resolve::Rules;
@@ -51,7 +52,8 @@ pub(crate) fn check<L: Ledger>(
     ensures { Meets (λ output. output)
         (spec.check_stage (options_in options.now) (inputs_in inputs.now)) (answer_of result) }
 {
-    let rules = rules_from(alloc, options, inputs, steps)?;
+    let props = properties_of(alloc, options, inputs, steps)?;
+    let rules = rules_of_bytes(alloc, inputs.rules.bytes(steps), &props, options.ignored)?;
     let bytes = counts_line(alloc, &rules)?;
     Ok(Prepared::Ready(Output::printed(bytes)))
 }

@@ -1,21 +1,18 @@
 //! The command `compile`.
 ghost use Rattle.std.specs.Prelude.{◌≡◌, IfOk};
-ghost use Rattle.rbbi_model.specs.Rules.{AreLawful};
 ghost use Rattle.rbbi_model.specs.Lines.{compile_line};
-ghost use Rattle.rbbi_resolve.specs.RuleLists.{rules_of};
-ghost use Rattle.rbbi_tool.specs.Basis.{limits_stage};
-ghost use Rattle.rbbi_tool.specs.inner.Stages.{Meets};
+ghost use Rattle.rbbi_tool.specs.Basis.{compiled_stage};
+ghost use Rattle.rbbi_tool.specs.inner.Stages.{Meets, Serves};
 ghost use Rattle.rbbi_tool.specs.inner.Prepared.{answer_of};
 ghost use Rattle.rbbi_command.specs.Requests.{options_in};
 ghost use Rattle.rbbi_command.specs.Inputs.{inputs_in, AreShort};
 ghost use Rattle.rbbi_tool.specs.Command.Compile.{IsCanonicalOf, compile_stage, table_outcome};
 
 use crate::prepared::Prepared;
-use crate::rules::rules_from;
-use crate::tables::table_of;
+use crate::properties::properties_of;
+use crate::tables::table_of_rules;
 use itoa::Buffer;
 use rbbi_command::{Inputs, Name, Options, Output, Refusal, Written, joined};
-use rbbi_resolve::Rules;
 use rbbi_table::Table;
 use rbbi_text::Steps;
 use std::alloc::{AllocError, Global};
@@ -53,13 +50,20 @@ fn numbers_line(alloc: Global, table: &Table) -> Result<Vec<u8>, AllocError>
     )
 }
 
-/// The canonical table of rules.
-fn canonical_of(alloc: Global, rules: &Rules) -> Result<Table, Refusal>
-    requires { AreLawful (rules_of rules.now) }
-    ensures exact { Meets (λ _. tt) (limits_stage (rules_of rules.now)) result }
-    ensures canonical { IfOk result (IsCanonicalOf (rules_of rules.now)) }
+/// The canonical table of a rule file. The first fault is that of the property files, or of the
+/// rule file.
+fn canonical_from<L: Ledger>(
+    alloc: Global,
+    options: &Options,
+    inputs: &Inputs,
+    steps: &mut Steps<L>,
+) -> Result<Table, Refusal>
+    requires { AreShort (inputs_in inputs.now) }
+    ensures { Serves (λ canonical rules. IsCanonicalOf rules canonical)
+        (compiled_stage (options_in options.now) (inputs_in inputs.now)) result }
 {
-    let table = table_of(alloc, rules)?;
+    let props = properties_of(alloc, options, inputs, steps)?;
+    let table = table_of_rules(alloc, inputs.rules.bytes(steps), &props, options.ignored)?;
     rbbi_dfa::compiled_tables_have_canonical();
     Ok(rbbi_canon::canonical(alloc, &table)?)
 }
@@ -92,8 +96,7 @@ pub(crate) fn compile<L: Ledger>(
         (compile_stage (options_in options.now) (inputs_in inputs.now) name.now)
         (answer_of result) }
 {
-    let rules = rules_from(alloc, options, inputs, steps)?;
-    let canonical = canonical_of(alloc, &rules)?;
+    let canonical = canonical_from(alloc, options, inputs, steps)?;
     let output = table_output(alloc, &canonical, name)?;
     Ok(Prepared::Ready(output))
 }

@@ -7,10 +7,11 @@ ghost use Rattle.rbbi_tool.specs.inner.Prepared.{answer_of};
 ghost use Rattle.rbbi_tool.specs.Command.Demo as spec;
 
 use crate::prepared::Prepared;
-use crate::tables::table_of_text;
+use crate::tables::table_of_rules;
 use itoa::Buffer;
 use rbbi_command::{Output, Refusal, count_of, joined};
 use rbbi_demo::Summary;
+use rbbi_props::PropTable;
 use rbbi_text::Steps;
 use std::alloc::{AllocError, Global};
 use std::sync::ledger::Ledger;
@@ -62,7 +63,8 @@ pub(crate) fn demo<L: Ledger>(
     let Some(count) = count_of(word) else {
         unreachable!();
     };
-    let table = table_of_text(alloc, RULES)?;
+    let none = PropTable::new(alloc);
+    let table = table_of_rules(alloc, RULES.as_bytes(), &none, false)?;
     rbbi_model::same_marks_give_the_boundaries();
     rbbi_demo::table_summaries_are_those_of_the_rules();
     let summary = rbbi_demo::demo(alloc, &table, count, steps)?;

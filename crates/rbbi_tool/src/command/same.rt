@@ -4,8 +4,7 @@ ghost use Rattle.rbbi_model.specs.Rules.{Rule};
 ghost use Rattle.rbbi_model.specs.Compiled.{IsCompiled};
 ghost use Rattle.rbbi_command.specs.Requests.{options_in};
 ghost use Rattle.rbbi_command.specs.Inputs.{inputs_in, AreShort};
-ghost use Rattle.rbbi_tool.specs.Basis.{MakesTable, compiled_bytes_stage};
-ghost use Rattle.rbbi_tool.specs.inner.Stages.{Meets, Serves};
+ghost use Rattle.rbbi_tool.specs.inner.Stages.{Meets};
 ghost use Rattle.rbbi_tool.specs.inner.Prepared.{answer_of};
 ghost use Rattle.rbbi_tool.specs.inner.Comparing.{AreCompared};
 ghost use Rattle.rbbi_tool.specs.Command.Same as spec;
@@ -93,38 +92,6 @@ fn told_of_second(refusal: Refusal) -> Refusal
     }
 }
 
-/// The table of the first rule file.
-fn first_table<L: Ledger>(
-    alloc: Global,
-    inputs: &Inputs,
-    props: &PropTable,
-    ignored: bool,
-    steps: &mut Steps<L>,
-) -> Result<Table, Refusal>
-    requires { AreShort (inputs_in inputs.now) }
-    ensures { MakesTable props.now ignored inputs.now.rules result }
-{
-    table_of_rules(alloc, inputs.rules.bytes(steps), props, ignored)
-}
-
-/// The table of the second rule file.
-fn second_table<L: Ledger>(
-    alloc: Global,
-    inputs: &Inputs,
-    props: &PropTable,
-    ignored: bool,
-    steps: &mut Steps<L>,
-) -> Result<Table, Refusal>
-    requires { AreShort (inputs_in inputs.now) }
-    ensures { Serves IsCompiled
-        (spec.as_second (compiled_bytes_stage props.now ignored inputs.now.other_rules)) result }
-{
-    match table_of_rules(alloc, inputs.other_rules.bytes(steps), props, ignored) {
-        Ok(table) => Ok(table),
-        Err(refusal) => Err(told_of_second(refusal)),
-    }
-}
-
 /// Whether the second rule file has the same marks as the first, whose table this is.
 fn compared_with<L: Ledger>(
     alloc: Global,
@@ -138,24 +105,11 @@ fn compared_with<L: Ledger>(
     ensures { (rules : List Rule) → IsCompiled these.now rules → Meets (λ output. output)
         (spec.second_stage props.now ignored (inputs_in inputs.now) rules) result }
 {
-    let those = second_table(alloc, inputs, props, ignored, steps)?;
+    let those = match table_of_rules(alloc, inputs.other_rules.bytes(steps), props, ignored) {
+        Ok(table) => table,
+        Err(refusal) => return Err(told_of_second(refusal)),
+    };
     Ok(comparison_of(alloc, these, &those)?)
-}
-
-/// Whether the two rule files have the same marks, with property files that were read.
-fn rule_files<L: Ledger>(
-    alloc: Global,
-    inputs: &Inputs,
-    props: &PropTable,
-    ignored: bool,
-    steps: &mut Steps<L>,
-) -> Result<Output, Refusal>
-    requires { AreShort (inputs_in inputs.now) }
-    ensures { Meets (λ output. output)
-        (spec.rule_files_stage props.now ignored (inputs_in inputs.now)) result }
-{
-    let these = first_table(alloc, inputs, props, ignored, steps)?;
-    compared_with(alloc, &these, inputs, props, ignored, steps)
 }
 
 /// Whether two rule files have the same marks after every text, and else a text after which they
@@ -171,6 +125,7 @@ pub(crate) fn same<L: Ledger>(
         (spec.same_stage (options_in options.now) (inputs_in inputs.now)) (answer_of result) }
 {
     let props = properties_of(alloc, options, inputs, steps)?;
-    let output = rule_files(alloc, inputs, &props, options.ignored, steps)?;
+    let these = table_of_rules(alloc, inputs.rules.bytes(steps), &props, options.ignored)?;
+    let output = compared_with(alloc, &these, inputs, &props, options.ignored, steps)?;
     Ok(Prepared::Ready(output))
 }

@@ -4,13 +4,7 @@ use Rattle.rbbi_tool.proofs.laws.outcomes_are_unique.Goals as goal
 pub returns : goal.returns
 returns c =
     same_outcome (record {
-      tokens = c.tokens_are_unique.ensures;
-      faults = c.faults_are_unique.ensures;
-      apart = c.tokens_exclude_faults.ensures;
-      readings = c.at_most_one_reading.ensures;
-      refusals = c.at_most_one_refusal.ensures;
-      excludes = c.file_excludes_fault.ensures;
-      meanings = c.at_most_one_meaning.ensures;
+      rules = c.one_table_or_fault.ensures;
       tables = c.spellings_tell_the_table.ensures;
       answers = c.one_answer.ensures;
       boundaries = c.boundaries_are_unique.ensures;

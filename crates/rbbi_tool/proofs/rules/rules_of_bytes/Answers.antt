@@ -1,18 +1,24 @@
 use Rattle.std.proofs.Common.{inl, inr, ⊎_elim}
 use Rattle.std.specs.Str.{chars}
 use Rattle.std.proofs.lemmas.Result.{err_from_is_err_and}
-use Rattle.rbbi_resolve.specs.RuleLists.{rules_of}
-use Rattle.rbbi_tool.specs.Rules.{rule_text_stage, rules_of_text_stage}
-use Rattle.rbbi_tool.proofs.StageLemmas.{goes_on}
+use Rattle.rbbi_compile.specs.Rules.{MeansRules, HasRuleFault}
+use Rattle.rbbi_tool.specs.Rules.{rule_text_stage, told_stage}
+use Rattle.rbbi_tool.proofs.StageLemmas.{stops_next}
+use Rattle.rbbi_tool.proofs.RuleFiles.{told_refuses}
 use Rattle.rbbi_tool.proofs.rules.rules_of_bytes.Goals as goal
 
-pub returns-in_err-text-clause-exact : goal.returns-in_err-text-clause-exact
-returns-in_err-text-clause-exact c =
+pub returns-in_err-text : goal.returns-in_err-text
+returns-in_err-text c =
     let p = err_from_is_err_and c.from_residual.result c.from_residual.ensures.1 in
     rw (p.1, p.2) (⊎_elim inl (λ is. inr (inl is)) c.in_err-text.ensures.exact)
 
-pub returns-clause-exact : goal.returns-clause-exact
-returns-clause-exact c =
-    goes_on (rule_text_stage c.args.bytes.now) (rules_of_text_stage c.args.props.now c.args.ignored) rules_of
-    (chars c.in_ok-text.text.now) c.rules_of_text.result
-    c.in_ok-text.ensures.exact c.rules_of_text.ensures.exact
+pub returns-in-Ok : goal.returns-in-Ok
+returns-in-Ok c = (chars c.in_ok-text.text.now, c.in_ok-text.ensures.exact, c.in-Ok.ensures.rules)
+
+pub returns-in-Err : goal.returns-in-Err
+returns-in-Err c =
+    let x = chars c.in_ok-text.text.now in
+    let files = c.args.props.now in
+    let ignored = c.args.ignored in
+    stops_next (rule_text_stage c.args.bytes.now) (told_stage (MeansRules files ignored) (HasRuleFault files ignored)) x c.told.result
+    c.in_ok-text.ensures.exact (told_refuses (HasRuleFault files ignored x) x c.in-Err.error c.told.result c.in-Err.ensures.refused c.told.ensures)
