@@ -1,7 +1,7 @@
 -- What calls that read property files and compile rules answer.
-use Rattle.std.specs.Prelude.{◌≡◌, ℕ, ◌<◌, ◌⊎◌, Bool, List, [], ◌∷◌, ◌++◌, length, Option, None, Some, Ok, IsUtf8, MatchOption}
+use Rattle.std.specs.Prelude.{◌≡◌, ℕ, ◌<◌, ◌⊎◌, Bool, List, [], ◌∷◌, ◌++◌, length, Option, None, Some, IsUtf8, MatchOption, codes}
 use Rattle.rbbi_model.specs.Tables.{Table as BreakTable}
-use Rattle.rbbi_text.specs.Bytes.{most_bytes}
+use Rattle.rbbi_text.specs.Bytes.{most_bytes, IsNotUtf8At}
 use Rattle.rbbi_props.specs.Rows.{File}
 use Rattle.rbbi_props.specs.Files.{named_file}
 use Rattle.rbbi_props.specs.Refusals.{HasRowsAlone, IsCause, label_of as property_label}
@@ -9,9 +9,11 @@ use Rattle.rbbi_props.specs.declared.error.PropErr.{PropErr}
 use Rattle.rbbi_props.specs.declared.error.PropErr.TheVariants as property
 use Rattle.rbbi_command.specs.declared.refusal.Place.{Place}
 use Rattle.rbbi_command.specs.declared.refusal.Place.TheVariants.{Byte, Row}
-use Rattle.rbbi_command.specs.declared.refusal.Subject.{Subject}
-use Rattle.rbbi_command.specs.declared.refusal.Refusal.TheVariants.{Fault}
-use Rattle.rbbi_tool.specs.Basis.{MakesTable, compiled_bytes_stage}
+use Rattle.rbbi_command.specs.Refusals.{place_in}
+use Rattle.rbbi_compile.specs.declared.error.CompileErr.{CompileErr}
+use Rattle.rbbi_compile.specs.Errors.{label_of, place_of}
+use Rattle.rbbi_compile.specs.Rules.{text_of}
+use Rattle.rbbi_compile.specs.Tables.{CompilesTo, HasFault}
 use Rattle.rbbi_c.specs.Calls.{IsNoText, IsWrongHandle}
 use Rattle.rbbi_c.specs.Faults.{Told, IsTold}
 use Rattle.rbbi_c.specs.Holding.{files_in, HoldsSomething}
@@ -41,14 +43,20 @@ IsAdded old name bytes code before after new =
 
 -- the table is compiled from the rules of the bytes, and no fault is told
 abbrev pub IsCompiledFrom : List File → Bool → List ℕ → Told → Told → BreakTable → Type 0
-IsCompiledFrom files ignored bytes before after table = MakesTable files ignored bytes (Ok table) × (after ≡ before)
+IsCompiledFrom files ignored bytes before after table = IsUtf8 bytes × CompilesTo files ignored (text_of bytes) table × (after ≡ before)
+
+-- the first fault of the bytes, its name and its place: they aren't UTF-8, or their text has a fault
+abbrev pub HasFaultAt : List File → Bool → List ℕ → List ℕ → Place → Type 0
+HasFaultAt files ignored bytes label place =
+    ((at : ℕ) × IsNotUtf8At bytes at × (label ≡ codes "NotUtf8") × (place ≡ Byte at))
+    ⊎ (IsUtf8 bytes × (error : CompileErr) × HasFault files ignored (text_of bytes) error × (label ≡ label_of error)
+    × (place ≡ place_in (text_of bytes) (place_of error)))
 
 -- the rules of the bytes have a fault, the first of which is told
 pub record TellsRuleFault (files : List File) (ignored : Bool) (bytes : List ℕ) (before after : Told) : Type 0 where
-  pub subject : Subject
   pub label : List ℕ
   pub place : Place
-  pub refused : (compiled_bytes_stage files ignored bytes).refuses (Fault subject label place)
+  pub has : HasFaultAt files ignored bytes label place
   pub told : IsTold label place before after
 
 -- why no table is compiled

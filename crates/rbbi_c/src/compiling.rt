@@ -10,11 +10,11 @@ use crate::codes;
 use crate::faults::Fault;
 use crate::handle::Handle;
 use crate::held::Held;
-use rbbi_command::{Place, Refusal};
+use rbbi_command::{Place, place_in};
+use rbbi_compile::{CompileErr, compile, rule_text};
 use rbbi_props::{PropErr, PropTable};
 use rbbi_table::Table;
 use rbbi_text::MOST_BYTES;
-use rbbi_tool::table_of_rules;
 use std::alloc::Global;
 
 /// The most bytes that a rule file may have.
@@ -57,10 +57,14 @@ fn compiled(
         (IsNotCompiled files.now ignored bytes.now (told fault.old name.old)
         (told fault.new name.new)) }
 {
-    match table_of_rules(alloc, bytes, files, ignored) {
+    let text = match rule_text(bytes) {
+        Ok(text) => text,
+        Err(at) => return Err(fault.tell("NotUtf8", Place::Byte(at), name)),
+    };
+    match compile(alloc, text, files, ignored) {
         Ok(table) => Ok(table),
-        Err(Refusal::Fault { label, place, .. }) => Err(fault.tell(label.as_str(), place, name)),
-        Err(_) => Err(codes::MEMORY),
+        Err(CompileErr::Memory) => Err(codes::MEMORY),
+        Err(error) => Err(fault.tell(error.label(), place_in(text, error.place()), name)),
     }
 }
 
