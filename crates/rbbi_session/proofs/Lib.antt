@@ -7,3 +7,5 @@ mod Asked
 pub mod UnitAnswering
 pub mod UnitEditing
 pub mod UnitCursors
+pub mod Recalled
+pub mod Walking

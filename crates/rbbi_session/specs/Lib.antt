@@ -5,5 +5,7 @@ pub mod Asking
 pub mod UnitSessions
 pub mod UnitErrors
 pub mod UnitEdits
+pub mod Walks
+pub mod UnitWalks
 pub mod Pausing
 pub mod inner

@@ -11,6 +11,7 @@ ghost use Rattle.rbbi_session.specs.Questions.{Past, Back};
 ghost use Rattle.rbbi_session.specs.Asking.{IsAsked, Asks, EditReads};
 
 use crate::boundary::{Boundary, start};
+use crate::statuses::greatest;
 use rbbi_cache::Cache;
 use rbbi_table::Table;
 use rbbi_text::{EditErr, EditText, Steps};
@@ -173,11 +174,7 @@ impl<'a, T: EditText> Session<'a, T> {
     pub fn status(&self) -> u32
         ensures { Largest result ≡ (answer_of self.now question.Status).reply }
     {
-        let mut greatest = 0;
-        for status in self.status_list() {
-            greatest = greatest.max(*status);
-        }
-        greatest
+        greatest(self.status_list())
     }
 
     /// The statuses of the boundary at the cursor, which rise.
