@@ -32,7 +32,7 @@ pub length-searched : (filter : Filter) (x : List ℕ) → length (searched filt
 length-searched (Suppressing list) x = refl
 length-searched (Turning pairs) x = length-map x (turn pairs)
 
-through_covers : (filter : Filter) (table : Table) (x : List ℕ) → CoverText (length x) (boundaries_through filter table x)
+pub through_covers : (filter : Filter) (table : Table) (x : List ℕ) → CoverText (length x) (boundaries_through filter table x)
 through_covers (Suppressing list) table x = kept_covers list table x
 through_covers (Turning pairs) table x =
     subst (λ n. CoverText n (table_boundaries table (turned pairs x))) (length-searched (Turning pairs) x) (table_covers table (turned pairs x))

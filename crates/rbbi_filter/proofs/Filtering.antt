@@ -1,12 +1,12 @@
 -- A session that leaves out suppressed boundaries, by what the session asks that it keeps.
-use Rattle.std.proofs.Common.{◌≡◌, ℕ, zero, suc, ◌+◌, ◌<◌, ◌≤◌, Bool, true, false, ltb, List, [], ◌∷◌, Option, Some, None, length, sym, ap, ◌∙◌, subst}
-use Rattle.std.proofs.Common.{⊎_elim, arith}
-use Rattle.std.proofs.lemmas.Bool.{cases_Bool, cond-true, cond-false, lt-ltb, ltb-false, not_from_false}
+use Rattle.std.proofs.Common.{◌≡◌, ℕ, zero, suc, ◌+◌, ◌<◌, ◌≤◌, Bool, true, false, ltb, List, Option, Some, length, sym, ap, ◌∙◌, subst}
+use Rattle.std.proofs.Common.{arith}
+use Rattle.std.proofs.lemmas.Bool.{cond-true, lt-ltb, not_from_false}
 use Rattle.rbbi_model.specs.Boundaries.{Boundary}
-use Rattle.rbbi_model.specs.Cover.{end_of, BeginAtZero, IsPlaceOf}
+use Rattle.rbbi_model.specs.Cover.{end_of, IsPlaceOf}
 use Rattle.rbbi_model.specs.Tables.{Table}
 use Rattle.rbbi_model.specs.Searches.{table_boundaries}
-use Rattle.rbbi_model.specs.Answers.{Following, Preceding, last_place, first_after, last_before, statuses_at, moved}
+use Rattle.rbbi_model.specs.Answers.{Following, Preceding, first_after, last_before, statuses_at, moved}
 use Rattle.rbbi_model.specs.Costs.{forward_cost, back_cost, last_cost, following_cost, preceding_cost, question_cost}
 use Rattle.rbbi_model.proofs.Covering.{table_covers}
 use Rattle.rbbi_text.specs.Steps.{RisesUpTo}
@@ -43,38 +43,6 @@ pub told_statuses : (list : List (List ℕ)) (session : Session) → IsAtKept li
 told_statuses list session tells =
     let x : List ℕ = session.state.text in
     sift_statuses (passes list x) (plain.boundaries_of session) session.state.cursor (not_from_false (is_suppressed list x session.state.cursor) tells)
-
--- there is a boundary past each place before the end
-none_means : (bs : List Boundary) (o : ℕ) → first_after bs o ≡ None → end_of bs ≤ o
-none_means [] o none = omega arith
-none_means (b ∷ []) o none =
-    ⊎_elim (λ holds. absurd (some_none b.at (sym (cond-true (ltb o b.at) (Some b.at) None holds) ∙ none))) (λ fails. ltb-false o b.at fails)
-    (cases_Bool (ltb o b.at))
-  where
-    some_none : (p : ℕ) → Some p ≡ None → ⊥
-    some_none p same = cc
-none_means (b ∷ c ∷ bs) o none =
-    ⊎_elim (λ holds. absurd (some_none b.at (sym (cond-true (ltb o b.at) (Some b.at) (first_after (c ∷ bs) o) holds) ∙ none)))
-    (λ fails. none_means (c ∷ bs) o (sym (cond-false (ltb o b.at) (Some b.at) (first_after (c ∷ bs) o) fails) ∙ none))
-    (cases_Bool (ltb o b.at))
-  where
-    some_none : (p : ℕ) → Some p ≡ None → ⊥
-    some_none p same = cc
-
-some_stays : (test : ℕ → Bool) (p : ℕ) (bs : List Boundary) → last_place test (Some p) bs ≡ None → ⊥
-some_stays test p [] none = cc
-some_stays test p (b ∷ bs) none =
-    ⊎_elim (λ holds. some_stays test b.at bs (sym (ap (λ m. last_place test m bs) (cond-true (test b.at) (Some b.at) (Some p) holds)) ∙ none))
-    (λ fails. some_stays test p bs (sym (ap (λ m. last_place test m bs) (cond-false (test b.at) (Some b.at) (Some p) fails)) ∙ none))
-    (cases_Bool (test b.at))
-
--- and one before each place past the start
-some_before : (bs : List Boundary) (o : ℕ) → BeginAtZero bs → 0 < o → last_before bs o ≡ None → ⊥
-some_before [] o begins some none = begins
-some_before (b ∷ bs) o begins some none =
-    let at : b.at ≡ 0 = begins in
-    some_stays (λ n. ltb n o) b.at bs
-    (sym (ap (λ m. last_place (λ n. ltb n o) m bs) (cond-true (ltb b.at o) (Some b.at) None (lt-ltb b.at o (omega arith)))) ∙ none)
 
 following_is : (table : Table) (x : List ℕ) (o : ℕ) → o < length x → following_cost table x o ≡ forward_cost table x o
 following_is table x o short = cond-true (ltb o (length x)) (forward_cost table x o) (last_cost table x) (lt-ltb o (length x) short)
@@ -132,13 +100,6 @@ module _ (list : List (List ℕ)) (old : FilterSession) (o : ℕ) (now new : Ses
       let bs : List Boundary = table_boundaries old.table old.state.text in
       first_up_to (λ p. ltb from p) bs place (length old.state.text) (none_behind (length old.state.text) bs (table_covers old.table old.state.text))
       (sym (first_is (Some place) answers))
-
-  -- there always is one
-  pub some_first : plain.Answers now (Following from) (place_reply None) new → ⊥
-  some_first answers =
-      let bs : List Boundary = table_boundaries old.table old.state.text in
-      let end : end_of (table_boundaries old.table old.state.text) ≤ from = none_means bs from (sym (first_is None answers)) in
-      omega (arith, passing.within, (table_covers old.table old.state.text).reach, end)
 
   pub moved_there : (place : ℕ) → plain.Answers now (Following from) (place_reply (Some place)) new
       → new.state ≡ record { text = old.state.text; cursor = place }
@@ -219,10 +180,6 @@ module _ (list : List (List ℕ)) (old : FilterSession) (o : ℕ) (now new : Ses
   pub last_is : (place : Option ℕ) → plain.Answers now (Preceding from) (place_reply place) new →
       place ≡ last_before (table_boundaries old.table old.state.text) from
   last_is place answers = place_is place (last_before (plain.boundaries_of now) from) 0 answers.replied ∙ ap (λ bs. last_before bs from) back_same
-
-  pub some_last : plain.Answers now (Preceding from) (place_reply None) new → ⊥
-  some_last answers =
-      some_before (table_boundaries old.table old.state.text) from (table_covers old.table old.state.text).begin passing.some (sym (last_is None answers))
 
   pub back_there : (place : ℕ) → plain.Answers now (Preceding from) (place_reply (Some place)) new
       → new.state ≡ record { text = old.state.text; cursor = place }

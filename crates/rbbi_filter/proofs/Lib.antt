@@ -5,7 +5,6 @@ pub mod Passing
 pub mod Covering
 pub mod Answering
 pub mod Filtering
-pub mod Listed
 pub mod ListingCosts
 pub mod Turning
 pub mod PairLines

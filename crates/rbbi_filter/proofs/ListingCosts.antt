@@ -14,6 +14,7 @@ use Rattle.rbbi_model.specs.Costs.{forward_cost, listing_cost}
 use Rattle.rbbi_model.proofs.Covering.{table_covers}
 use Rattle.rbbi_session.proofs.Rises.{from_is_after, from_a_place, rises_after, rising_right}
 use Rattle.rbbi_session.proofs.Stepping.{first_is_next}
+use Rattle.rbbi_session.specs.Walks.{ListsArePaid}
 use Rattle.rbbi_session.proofs.Answering.{none_behind, place_within}
 use Rattle.rbbi_filter.specs.Abbreviations.{window_size, is_suppressed, kept}
 use Rattle.rbbi_filter.specs.declared.pair.Pair.{Pair}
@@ -22,10 +23,9 @@ use Rattle.rbbi_filter.specs.declared.filter.Filter.{Filter}
 use Rattle.rbbi_filter.specs.declared.filter.Filter.TheVariants.{Suppressing, Turning}
 use Rattle.rbbi_filter.specs.Filters.{boundaries_through}
 use Rattle.rbbi_filter.specs.FilterCosts.{forward_kept_cost, last_through, question_through}
-use Rattle.rbbi_filter.specs.FilterSessions.{FilterSession, boundaries_of}
-use Rattle.rbbi_filter.specs.inner.Listing.{nexts_cost}
+use Rattle.rbbi_filter.specs.FilterSessions.{filter_view}
 use Rattle.rbbi_filter.proofs.Sifting.{sift, sift_takes, sift_drops, sift_was}
-use Rattle.rbbi_filter.proofs.Covering.{passes, length-searched, covers}
+use Rattle.rbbi_filter.proofs.Covering.{passes, length-searched, through_covers}
 use Rattle.rbbi_filter.proofs.Passing.{suppressed_within, stops_cost, goes_cost}
 
 end_here : (front : List Boundary) (b : Boundary) → end_of (front ++ b ∷ []) ≡ b.at
@@ -156,19 +156,17 @@ module _ (table : Table) (pairs : List Pair) (x : List ℕ) where
       let there = cond-false (eqb (suc p) 0) 0 (forward_cost table y (suc p - 1)) (ne_eqb (suc p) 0 (λ same. omega (arith, same))) in
       omega (arith, asked, there, ap (forward_cost table y) one)
 
--- going on from each boundary that is told, and asking for the cursor's, costs no more than asking for all boundaries
+-- going on from each boundary that is reported, and asking for the cursor's, costs no more than asking for all boundaries
 pays : (filter : Filter) (table : Table) (x : List ℕ) (cursor : ℕ) → cursor ≤ length x → IsPlaceOf (boundaries_through filter table x) cursor →
     sum_by (λ b. question_through filter table x b.at Next) (boundaries_through filter table x) + question_through filter table x cursor (IsBoundary cursor)
     ≤ question_through filter table x cursor Breaks
 pays (Suppressing list) table x cursor within here = pays_kept table list x cursor here
 pays (Turning pairs) table x cursor within here = omega (arith, pays_all table pairs x, asks_back table pairs x cursor within)
 
-pub listing_pays : (session : FilterSession) (cursor : ℕ) → cursor ≡ session.state.cursor → IsPlaceOf (boundaries_of session) cursor →
-    nexts_cost session (boundaries_of session) + question_through session.filter session.table session.state.text cursor (IsBoundary cursor)
-    ≤ question_through session.filter session.table session.state.text session.state.cursor Breaks
-listing_pays session cursor at here =
-    let within : cursor ≤ length session.state.text = place_within (boundaries_of session) cursor (length session.state.text)
-    (none_behind (length session.state.text) (boundaries_of session) (covers session)) here in
-    subst (λ p. nexts_cost session (boundaries_of session) + question_through session.filter session.table session.state.text cursor (IsBoundary cursor)
-    ≤ question_through session.filter session.table session.state.text p Breaks) at
-    (pays session.filter session.table session.state.text cursor within here)
+-- as a session is to promise it
+pub lists_are_paid : ListsArePaid filter_view
+lists_are_paid setting state cursor here =
+    let within : state.cursor ≤ length state.text = place_within (boundaries_through setting.filter setting.table state.text) state.cursor (length state.text)
+    (none_behind (length state.text) (boundaries_through setting.filter setting.table state.text) (through_covers setting.filter setting.table state.text))
+    here in
+    pays setting.filter setting.table state.text state.cursor within here

@@ -20,6 +20,6 @@ IsAbbreviationLine line number (Writes w) = (¬ IsSkipped line) × (w ≡ chars 
 IsAbbreviationLine line number Bad = (¬ IsSkipped line) × (¬ IsAbbreviation (chars line))
 
 -- What reading a file of abbreviations answers: those that its lines are, in order, where each line is skipped or one. Otherwise the
--- first byte past the longest front that is UTF-8, or the first line that is neither.
+-- first byte past the longest prefix that is UTF-8, or the first line that is neither.
 abbrev pub ReadsAbbreviations : List ℕ → Result (List (List ℕ)) LinesErr → Type 0
 ReadsAbbreviations bytes answer = ReadsLines IsAbbreviationLine bytes answer

@@ -1,4 +1,4 @@
--- Abbreviations, and the boundaries that aren't told since one stands before them.
+-- Abbreviations, and the boundaries that aren't reported since one stands before them.
 use Rattle.std.specs.Prelude.{ℕ, ◌-◌, Bool, not, ◌&&◌, ◌||◌, ◌==◌, nat_eq, nat_lt, nat_le, List, length, take, filter, slice_index, slice_range}
 use Rattle.std.specs.List.{list_any, suffix_len, ends_with}
 use Rattle.rbbi_model.specs.Boundaries.{Boundary}

@@ -6,9 +6,9 @@ use Rattle.rbbi_filter.specs.declared.pair.Pair.{Pair}
 use Rattle.rbbi_filter.specs.Pairs.{turn}
 
 -- The predicate may be asked of each list of at most 64 characters, and answers whether it ends with one of these abbreviations.
-pub record TellsEnds (can_tell : List ℕ → Type 0) (tells : List ℕ → Bool → Type 0) (list : List (List ℕ)) : Type 0 where
-  pub callable : (w : List ℕ) → IsText w → length w ≤ window_size → can_tell w
-  pub answers : (w : List ℕ) (is : Bool) → IsText w → length w ≤ window_size → tells w is → is ≡ ends list w
+pub record AnswersEnds (can_ask : List ℕ → Type 0) (gives : List ℕ → Bool → Type 0) (list : List (List ℕ)) : Type 0 where
+  pub callable : (w : List ℕ) → IsText w → length w ≤ window_size → can_ask w
+  pub answers : (w : List ℕ) (is : Bool) → IsText w → length w ≤ window_size → gives w is → is ≡ ends list w
 
 -- The map may be called on each character, and answers what the pairs turn it into.
 pub record Turns (can_map : ℕ → Type 0) (maps : ℕ → ℕ → Type 0) (pairs : List Pair) : Type 0 where

@@ -1,17 +1,16 @@
--- How many characters each question and command may read, where boundaries are told through a filter.
-use Rattle.std.specs.Prelude.{ℕ, zero, suc, ◌+◌, ◌*◌, ◌&&◌, List, [], ◌∷◌, length, filter, sum_by, unwrap_or, if◌then◌else◌, ◌==◌, nat_lt}
+-- How many characters each question may read, where boundaries are reported through a filter.
+use Rattle.std.specs.Prelude.{ℕ, zero, suc, ◌+◌, ◌*◌, ◌&&◌, List, length, filter, sum_by, unwrap_or, if◌then◌else◌, ◌==◌, nat_lt}
 use Rattle.rbbi_model.specs.Boundaries.{Boundary}
 use Rattle.rbbi_model.specs.Tables.{Table}
 use Rattle.rbbi_model.specs.Searches.{table_boundaries}
 use Rattle.rbbi_model.specs.Answers.{Question, First, Last, Next, Previous, Following, Preceding, IsBoundary, Current, Status, Statuses, Breaks}
 use Rattle.rbbi_model.specs.Answers.{first_after, last_before}
-use Rattle.rbbi_model.specs.Scripts.{Command, Ask, Replace, ShowText, State, turn_by, edit}
-use Rattle.rbbi_model.specs.Costs.{forward_cost, back_cost, last_cost, breaks_cost, edit_cost}
+use Rattle.rbbi_model.specs.Costs.{forward_cost, back_cost, last_cost, breaks_cost}
 use Rattle.rbbi_filter.specs.Abbreviations.{window_size, kept}
 use Rattle.rbbi_filter.specs.Pairs.{turned}
 use Rattle.rbbi_filter.specs.declared.filter.Filter.{Filter}
 use Rattle.rbbi_filter.specs.declared.filter.Filter.TheVariants.{Suppressing, Turning}
-use Rattle.rbbi_filter.specs.Filters.{searched, boundaries_through}
+use Rattle.rbbi_filter.specs.Filters.{searched}
 
 -- the boundaries between two places
 abbrev pub between : List Boundary → ℕ → ℕ → List Boundary
@@ -70,10 +69,10 @@ breaks_through (Suppressing list) table x cursor =
     breaks_cost table x cursor + window_size * length (table_boundaries table x) + window_size
 breaks_through (Turning pairs) table x cursor = breaks_cost table (turned pairs x) cursor
 
--- the cost of whether a boundary is told
-abbrev pub telling_cost : Filter → ℕ
-telling_cost (Suppressing list) = window_size
-telling_cost (Turning pairs) = 0
+-- the cost of whether a boundary is reported
+abbrev pub reporting_cost : Filter → ℕ
+reporting_cost (Suppressing list) = window_size
+reporting_cost (Turning pairs) = 0
 
 -- the cost of a question
 abbrev pub question_through : Filter → Table → List ℕ → ℕ → Question → ℕ
@@ -88,16 +87,3 @@ question_through filter table x cursor Current = 0
 question_through filter table x cursor Status = 0
 question_through filter table x cursor Statuses = 0
 question_through filter table x cursor Breaks = breaks_through filter table x cursor
-
--- the cost of a command
-abbrev pub command_through : Filter → Table → State → Command → ℕ
-command_through filter table state (Ask question) = question_through filter table state.text state.cursor question
-command_through filter table state (Replace at removed inserted) = edit_cost
-command_through filter table state ShowText = length state.text
-
--- the sum of the costs of commands, each over the text and the cursor of its moment
-abbrev pub commands_through : Filter → Table → State → List Command → ℕ
-commands_through filter table state [] = 0
-commands_through filter table state (command ∷ commands) =
-    command_through filter table state command
-    + commands_through filter table (turn_by edit (boundaries_through filter table state.text) state command).state commands

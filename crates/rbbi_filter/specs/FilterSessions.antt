@@ -1,15 +1,16 @@
 -- A session through a filter: what contracts see of one, and what its calls answer, leave and read.
-use Rattle.std.specs.Prelude.{◌≡◌, ℕ, List, length, Result, Ok, Err}
+use Rattle.std.specs.Prelude.{◌≡◌, ℕ, false, List, length, Result, Ok, Err}
 use Rattle.rbbi_model.specs.Boundaries.{Boundary}
 use Rattle.rbbi_model.specs.Tables.{Table}
 use Rattle.rbbi_model.specs.Runs.{Run}
-use Rattle.rbbi_model.specs.Answers.{Question, Reply, Outside, TooLong, Answer, answer}
+use Rattle.rbbi_model.specs.Answers.{Outside, TooLong}
 use Rattle.rbbi_model.specs.Scripts.{State, Refused, Accepted, edit, opened}
 use Rattle.rbbi_model.specs.Costs.{edit_cost}
 use Rattle.rbbi_cache.specs.Kept.{AreTrueRuns}
 use Rattle.rbbi_text.specs.Steps.{RisesUpTo}
 use Rattle.rbbi_text.specs.declared.error.EditErr.{EditErr}
 use Rattle.rbbi_text.specs.declared.error.EditErr.TheVariants as refused
+use Rattle.rbbi_session.specs.Walks.{Kind, View}
 use Rattle.rbbi_filter.specs.declared.filter.Filter.{Filter}
 use Rattle.rbbi_filter.specs.Filters.{searched, boundaries_through}
 use Rattle.rbbi_filter.specs.FilterCosts.{question_through}
@@ -29,9 +30,30 @@ boundaries_of session = boundaries_through session.filter session.table session.
 abbrev pub HasTrueRuns : FilterSession → Type 0
 HasTrueRuns session = AreTrueRuns session.table (searched session.filter session.state.text) session.runs
 
--- the answer to the question by the boundaries of the session's text
-abbrev pub answer_of : FilterSession → Question → Answer
-answer_of session question = answer (boundaries_of session) session.state.cursor question
+-- the filter and the table
+pub record FilterSetting : Type 0 where
+  pub filter : Filter
+  pub table : Table
+
+-- what sessions report through a filter by a table; places and lengths are in characters
+abbrev pub filter_kind : Filter → Table → Kind
+filter_kind filter table = record {
+  boundaries = boundaries_through filter table;
+  units = length;
+  edit = edit;
+  cost = λ state question. question_through filter table state.text state.cursor question;
+  recalls = false;
+}
+
+-- nothing is said of what a question or an edit leaves of the runs but that they are true
+abbrev pub filter_view : View FilterSession FilterSetting
+filter_view = record {
+  setting = λ session. record { filter = session.filter; table = session.table };
+  kind = λ setting. filter_kind setting.filter setting.table;
+  state = λ session. session.state;
+  asks = λ old question new before after. Unit {0};
+  edits = λ old at removed inserted new before after. Unit {0};
+}
 
 -- the session stands at the start of the text
 pub record IsOpened (filter : Filter) (table : Table) (x : List ℕ) (session : FilterSession) : Type 0 where
@@ -44,15 +66,6 @@ pub record MovesTo (old : FilterSession) (place : ℕ) (new : FilterSession) : T
   pub filter_is : new.filter ≡ old.filter
   pub table_is : new.table ≡ old.table
   pub state_is : new.state ≡ record { text = old.state.text; cursor = place }
-
--- the session answers the question with this reply, and its cursor goes where the answer says
-pub record Answers (old : FilterSession) (question : Question) (reply : Reply) (new : FilterSession) : Type 0 where
-  pub replied : reply ≡ (answer_of old question).reply
-  pub moved : MovesTo old (answer_of old question).cursor new
-
--- the question reads at most its cost
-abbrev pub Asks : FilterSession → Question → ℕ → ℕ → Type 0
-Asks old question before after = RisesUpTo (question_through old.filter old.table old.state.text old.state.cursor question) before after
 
 -- the edit is accepted: the session has the new text, and its cursor is at 0
 pub record AcceptsEdit (old : FilterSession) (at removed : ℕ) (inserted : List ℕ) (new : FilterSession) : Type 0 where

@@ -6,6 +6,5 @@ pub mod PairFiles
 pub mod Filters
 pub mod FilterCosts
 pub mod FilterSessions
-pub mod Performing
 pub mod Laws
 pub mod inner

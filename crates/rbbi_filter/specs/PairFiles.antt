@@ -58,7 +58,7 @@ pub record IsFirstBadPair (lines : List (List ℕ)) (number : ℕ) : Type 0 wher
   pub bad : IsPairLine line number Bad ⊎ ((pair : Pair) × (second : ℕ) × IsPairLine line number (Writes pair) × (second_of pairs pair.from ≡ Some second))
 
 -- What reading a tailoring file answers: the pairs of its lines, in order, which have distinct first characters. Otherwise the first byte
--- past the longest front that is UTF-8, or the first bad line.
+-- past the longest prefix that is UTF-8, or the first bad line.
 abbrev pub ReadsPairs : List ℕ → Result (List Pair) LinesErr → Type 0
 ReadsPairs bytes (Ok pairs) = IsUtf8 bytes × AreValues IsPairLine (file_lines bytes) 0 pairs × AreDistinct pairs
 ReadsPairs bytes (Err (NotUtf8 at)) = IsNotUtf8At bytes at

@@ -1,6 +1,5 @@
 -- What only this crate's own code and proofs cite. Nothing that is promised rests on it.
 pub mod Windows
-pub mod Listing
 pub mod Turning
 pub mod PairLines
 pub mod Keys

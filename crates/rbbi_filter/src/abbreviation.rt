@@ -69,8 +69,8 @@ impl Abbreviations {
     /// with `#` are skipped. Every other line is one abbreviation: 1 to 32 characters, of which
     /// neither the first nor the last is a space.
     ///
-    /// Refuses `NotUtf8` with the first byte past the longest valid front, `BadLine` with the first
-    /// line that is neither skipped nor an abbreviation, and `Memory`.
+    /// Refuses `NotUtf8` with the first byte past the longest valid prefix, `BadLine` with the
+    /// first line that is neither skipped nor an abbreviation, and `Memory`.
     pub fn read(alloc: Global, bytes: &[u8]) -> Result<Abbreviations, AbbrErr>
         requires { length bytes.now ≤ most_bytes }
         ensures { ReadsAbbreviations bytes.now result }

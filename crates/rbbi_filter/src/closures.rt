@@ -8,23 +8,23 @@ ghost use Rattle.std.specs.Fn.{FnReturnsAt, TakesAt};
 /// A predicate of characters: each closure of that form is one.
 pub trait Predicate {
     /// It may be asked of these characters.
-    ghost can_tell: { Self → List ℕ → Type 0 };
+    ghost can_ask: { Self → List ℕ → Type 0 };
 
     /// Of these characters it may answer so.
-    ghost tells: { Self → List ℕ → Bool → Type 0 };
+    ghost answers: { Self → List ℕ → Bool → Type 0 };
 
     /// Whether it holds of characters.
-    fn tell(&self, w: &[char]) -> bool
-        requires { can_tell self.now w.now }
-        ensures { tells self.now w.now result };
+    fn holds(&self, w: &[char]) -> bool
+        requires { can_ask self.now w.now }
+        ensures { answers self.now w.now result };
 }
 
 impl<F: Fn(&[char]) -> bool> Predicate for F {
-    ghost can_tell = { TakesAt F.Fn };
+    ghost can_ask = { TakesAt F.Fn };
 
-    ghost tells = { FnReturnsAt F.Fn };
+    ghost answers = { FnReturnsAt F.Fn };
 
-    fn tell(&self, w: &[char]) -> bool {
+    fn holds(&self, w: &[char]) -> bool {
         self(w)
     }
 }

@@ -1,10 +1,10 @@
 //! A session that leaves out boundaries before which an abbreviation stands.
-ghost use Rattle.rbbi_filter.specs.Closures.{TellsEnds};
+ghost use Rattle.rbbi_filter.specs.Closures.{AnswersEnds};
 ghost use Rattle.rbbi_filter.specs.declared.filter.Filter.TheVariants.{Suppressing};
 ghost use Rattle.rbbi_filter.specs.FilterSessions.{FilterSession, HasTrueRuns, IsOpened};
 
+use crate::moves::Moves;
 use crate::through::Through;
-use crate::walk::Walk;
 use crate::window::is_suppressed;
 use crate::{Abbreviations, Predicate};
 use rbbi_session::Session;
@@ -17,10 +17,10 @@ use std::sync::ledger::Ledger;
 /// answers are by the boundaries that are left.
 pub type Filtered<'a, T, P> = Through<Suppressed<'a, T, P>>;
 
-/// A session, and the abbreviations behind which no boundary is told.
+/// A session, and the abbreviations behind which no boundary is reported.
 #[derive(Drop)]
 pub struct Suppressed<'a, T: EditText, P: Predicate> {
-    /// Its cursor stands at a boundary that is told.
+    /// Its cursor stands at a boundary that is reported.
     session: Session<'a, T>,
     /// The abbreviations of which the predicate tells.
     list: &'a Abbreviations,
@@ -33,7 +33,7 @@ impl<'a, T: EditText, P: Predicate> Model for Suppressed<'a, T, P> {
 
     ghost Value = { FilterSession };
 
-    ghost use Rattle.rbbi_filter.specs.Closures.{TellsEnds};
+    ghost use Rattle.rbbi_filter.specs.Closures.{AnswersEnds};
     ghost use Rattle.rbbi_filter.specs.inner.Windows.{IsAtKept};
 
     ghost view = { λ suppressed. record {
@@ -44,14 +44,15 @@ impl<'a, T: EditText, P: Predicate> Model for Suppressed<'a, T, P> {
     } };
 
     ghost invariant = { λ suppressed. IsAtKept suppressed.list.now suppressed.session.state
-        × TellsEnds (P.can_tell suppressed.keep) (P.tells suppressed.keep) suppressed.list.now };
+        × AnswersEnds (P.can_ask suppressed.keep) (P.answers suppressed.keep)
+        suppressed.list.now };
 }
 
 impl<'a, T: EditText, P: Predicate> Through<Suppressed<'a, T, P>> {
     /// The session through these abbreviations, with the cursor at 0. `keep` tells of at most 64
     /// characters before a boundary whether they end with one of them. It takes no memory.
     pub fn open(session: Session<'a, T>, list: &'a Abbreviations, keep: P) -> Filtered<'a, T, P>
-        requires { TellsEnds (P.can_tell keep) (P.tells keep) list.now }
+        requires { AnswersEnds (P.can_ask keep) (P.answers keep) list.now }
         ensures opened { IsOpened (Suppressing list.now) session.entry.table
             session.entry.state.text result }
         ensures are_true { HasTrueRuns result }
@@ -59,7 +60,7 @@ impl<'a, T: EditText, P: Predicate> Through<Suppressed<'a, T, P>> {
         let mut session = session;
         session.first();
         Through {
-            walk: Suppressed {
+            moves: Suppressed {
                 session,
                 list,
                 keep,
@@ -68,7 +69,7 @@ impl<'a, T: EditText, P: Predicate> Through<Suppressed<'a, T, P>> {
     }
 }
 
-impl<T: EditText, P: Predicate> Walk for Suppressed<'_, T, P> {
+impl<T: EditText, P: Predicate> Moves for Suppressed<'_, T, P> {
     type Text = T;
 
     ghost session = { λ suppressed. suppressed };

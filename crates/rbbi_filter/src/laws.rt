@@ -16,13 +16,13 @@ pub fn turned_splices()
 {}
 
 /// Law: bytes have one answer, but for want of memory: they are the file of one list of
-/// abbreviations, or one fault is told.
+/// abbreviations, or one fault is reported.
 pub fn one_abbreviations()
     ensures { HaveOneAnswer ReadsAbbreviations }
 {}
 
 /// Law: bytes have one answer, but for want of memory: they are the file of one list of pairs, or
-/// one fault is told.
+/// one fault is reported.
 pub fn one_tailoring()
     ensures { HaveOneAnswer ReadsPairs }
 {}

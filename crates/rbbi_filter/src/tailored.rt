@@ -4,8 +4,8 @@ ghost use Rattle.rbbi_filter.specs.Closures.{Turns};
 ghost use Rattle.rbbi_filter.specs.declared.filter.Filter.TheVariants.{Turning};
 ghost use Rattle.rbbi_filter.specs.FilterSessions.{IsOpened};
 
+use crate::moves::Moves;
 use crate::through::Through;
-use crate::walk::Walk;
 use crate::{CharMap, Mapped, Tailoring};
 use rbbi_cache::Cache;
 use rbbi_session::character_count;
@@ -76,7 +76,7 @@ impl<'a, T: EditText + Drop, G: CharMap + Drop> Through<Turned<'a, T, G>> {
         table.valid();
         let cache = Cache::new(alloc, table)?;
         Ok(Through {
-            walk: Turned {
+            moves: Turned {
                 table,
                 text,
                 pairs,
@@ -89,7 +89,7 @@ impl<'a, T: EditText + Drop, G: CharMap + Drop> Through<Turned<'a, T, G>> {
     }
 }
 
-impl<T: EditText, G: CharMap> Walk for Turned<'_, T, G> {
+impl<T: EditText, G: CharMap> Moves for Turned<'_, T, G> {
     type Text = T;
 
     ghost session = { λ turning. turning };

@@ -53,8 +53,8 @@ impl Tailoring {
     /// between them, each of four to six hexadecimal digits of either case, with spaces and tabs
     /// round either.
     ///
-    /// Refuses `NotUtf8` with the first byte past the longest valid front, `BadLine` with the first
-    /// line that is neither skipped nor of this form, or whose first character is that of an
+    /// Refuses `NotUtf8` with the first byte past the longest valid prefix, `BadLine` with the
+    /// first line that is neither skipped nor of this form, or whose first character is that of an
     /// earlier line, and `Memory`.
     pub fn read(alloc: Global, bytes: &[u8]) -> Result<Tailoring, TailorErr>
         requires { length bytes.now ≤ most_bytes }

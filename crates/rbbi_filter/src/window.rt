@@ -3,7 +3,7 @@ ghost use Rattle.std.specs.Prelude.{◌≡◌, ◌+◌, ◌≤◌, min, length, 
 ghost use Rattle.rbbi_text.specs.Steps.{RisesUpTo};
 ghost use Rattle.rbbi_filter.specs.Abbreviations as spec;
 ghost use Rattle.rbbi_filter.specs.Abbreviations.{window_size};
-ghost use Rattle.rbbi_filter.specs.Closures.{TellsEnds};
+ghost use Rattle.rbbi_filter.specs.Closures.{AnswersEnds};
 
 use crate::{Abbreviations, Predicate};
 use rbbi_text::{Chars, Steps};
@@ -33,9 +33,9 @@ fn read_before<T: Chars, L: Ledger>(
     count
 }
 
-/// Whether a boundary isn't told since an abbreviation stands before it: it is neither the text's
-/// start nor its end, and the predicate is true of the characters before it, at most 64. These are
-/// read at most once.
+/// Whether a boundary isn't reported since an abbreviation stands before it: it is neither the
+/// text's start nor its end, and the predicate is true of the characters before it, at most 64.
+/// These are read at most once.
 pub(crate) fn is_suppressed<T: Chars, P: Predicate, L: Ledger>(
     text: &T,
     at: u32,
@@ -44,7 +44,7 @@ pub(crate) fn is_suppressed<T: Chars, P: Predicate, L: Ledger>(
     steps: &mut Steps<L>,
 ) -> bool
     requires within { at ≤ length (T.characters text.now) }
-    requires tells { TellsEnds (P.can_tell keep.now) (P.tells keep.now) list.now }
+    requires tells { AnswersEnds (P.can_ask keep.now) (P.answers keep.now) list.now }
     ensures exact { result ≡ spec.is_suppressed list.now (T.characters text.now) at }
     ensures cost { RisesUpTo window_size steps.old steps.new }
 {
@@ -53,5 +53,5 @@ pub(crate) fn is_suppressed<T: Chars, P: Predicate, L: Ledger>(
     }
     let mut window = ['\0'; SIZE];
     let count = read_before(text, at, &mut window, steps);
-    keep.tell(&window[..count])
+    keep.holds(&window[..count])
 }

@@ -4,11 +4,6 @@ pub mod LineKinds
 pub mod EditLines
 pub mod Performed
 pub mod Listed
-pub mod ListingRuns
-pub mod ListingCosts
-pub mod ListingUnits
-pub mod Recalled
-pub mod Played
 pub mod OneCommand
 pub mod OneScript
 mod JoinedStatuses

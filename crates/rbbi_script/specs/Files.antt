@@ -17,6 +17,6 @@ IsScriptLine text number (line.Writes command) = Writes text (meaning command) �
 IsScriptLine text number line.Bad = (¬ IsSkipped text) × ((command : model.Command) → ¬ Writes text command)
 
 -- What reading a script answers: the commands that its lines write, in order, where each line is skipped or writes one. Otherwise the
--- first byte past the longest front that is UTF-8, or the first line that is neither.
+-- first byte past the longest prefix that is UTF-8, or the first line that is neither.
 abbrev pub ReadsScript : List ℕ → Result (List Command) LinesErr → Type 0
 ReadsScript bytes answer = ReadsLines IsScriptLine bytes answer

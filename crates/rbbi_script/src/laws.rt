@@ -2,7 +2,7 @@
 ghost use Rattle.rbbi_script.specs.Laws.{HaveOneScript};
 
 /// Law: bytes have one answer, but for want of memory: they are the script of one list of commands,
-/// or one fault is told. It is there for proofs, and does nothing when it runs.
+/// or one fault is reported. It is there for proofs, and does nothing when it runs.
 pub fn one_script()
     ensures { HaveOneScript }
 {}

@@ -2,37 +2,32 @@
 ghost use Rattle.std.specs.Prelude.{◌≡◌, length};
 ghost use Rattle.rbbi_model.specs.Answers.{Breaks, Characters};
 ghost use Rattle.rbbi_model.specs.Scripts.{Ask};
-ghost use Rattle.rbbi_model.specs.Costs.{listing_cost};
 ghost use Rattle.rbbi_model.specs.Lines.{escaped, reply_lines, boundary_lines};
-ghost use Rattle.rbbi_model.specs.Plays.{measured_boundaries};
-ghost use Rattle.rbbi_session.specs.Sessions.{boundaries_of, HasTrueRuns};
+ghost use Rattle.rbbi_session.specs.Walks.{kind_of, reported, nexts_cost};
 ghost use Rattle.rbbi_text.specs.Appending.{Appends};
-ghost use Rattle.rbbi_script.specs.Performing.{Performs};
 ghost use Rattle.rbbi_text.specs.Steps.{RisesUpTo};
-ghost use Rattle.rbbi_script.specs.Reading.{IsPaid};
-ghost use Rattle.rbbi_script.specs.inner.Reading.{AsksNexts};
-ghost use Rattle.rbbi_script.specs.Reading.{ListsRuns};
+ghost use Rattle.rbbi_script.specs.Performing.{Performs};
+ghost use Rattle.rbbi_script.specs.Reading.{IsPaid, Lists};
+ghost use Rattle.rbbi_script.specs.inner.Reading.{IsSameText, ListsNexts};
 
 use crate::statuses::say_bound;
-use rbbi_session::UnitSession;
-use rbbi_text::{Chars, Steps, UnitText, append};
+use rbbi_session::Walk;
+use rbbi_text::{Chars, Steps, append};
 use std::alloc::AllocError;
 use std::sync::ledger::Ledger;
 
 /// Appends a line for each boundary, and leaves the cursor where it was.
-pub(crate) fn say_boundaries<T: UnitText, L: Ledger>(
-    session: &mut UnitSession<'_, T>,
+pub(crate) fn say_boundaries<S: Walk, L: Ledger>(
+    session: &mut S,
     reply: &mut Vec<u8>,
     steps: &mut Steps<L>,
 ) -> Result<(), AllocError>
-    ensures replies { Performs session.old (Ask Breaks) reply.old.items
+    ensures replies { Performs S.view session.old (Ask Breaks) reply.old.items
         result session.new reply.new.items }
-    ensures cost { IsPaid session.old (Ask Breaks) steps.old steps.new }
-    ensures runs { ListsRuns session.old.asked result session.new.asked steps.old steps.new }
-    ensures are_true { HasTrueRuns session.new.asked }
+    ensures cost { IsPaid S.view session.old (Ask Breaks) steps.old steps.new }
+    ensures lists { Lists S.view session.old result session.new steps.old steps.new }
 {
-    // That the cursor is a boundary is for the proof.
-    session.runs_are_true();
+    S::laws();
     let cursor = session.current();
     let said = say_each(session, reply, steps);
     session.is_boundary(cursor, steps);
@@ -40,35 +35,30 @@ pub(crate) fn say_boundaries<T: UnitText, L: Ledger>(
 }
 
 /// Goes from boundary to boundary, and appends a line for each.
-fn say_each<T: UnitText, L: Ledger>(
-    session: &mut UnitSession<'_, T>,
+fn say_each<S: Walk, L: Ledger>(
+    session: &mut S,
     reply: &mut Vec<u8>,
     steps: &mut Steps<L>,
 ) -> Result<(), AllocError>
-    ensures lines { Appends reply.old.items (boundary_lines (measured_boundaries
-        session.old.asked.table session.old.unit session.old.asked.state.text))
+    ensures lines { Appends reply.old.items (boundary_lines (reported S.view session.old))
         result reply.new.items }
-    ensures text { session.new.asked.state.text ≡ session.old.asked.state.text }
-    ensures table { session.new.asked.table ≡ session.old.asked.table }
-    ensures unit { session.new.unit ≡ session.old.unit }
-    ensures cost { RisesUpTo (listing_cost session.old.asked.table session.old.asked.state.text
-        (boundaries_of session.old.asked)) steps.old steps.new }
-    ensures runs { AsksNexts session.old.asked result session.new.asked steps.old steps.new }
+    ensures same { IsSameText S.view session.old session.new }
+    ensures cost { RisesUpTo (nexts_cost (kind_of S.view session.old)
+        (S.view.state session.old).text (reported S.view session.old)) steps.old steps.new }
+    ensures lists { ListsNexts S.view session.old result session.new steps.old steps.new }
 {
+    S::laws();
     let mut place = Some(session.first());
-    // That the cursor is a boundary is for the proof, here and after each question.
-    session.runs_are_true();
     while let Some(at) = place {
         say_bound(at, session.status_list(), reply)?;
         place = session.next(steps);
-        session.runs_are_true();
     }
     Ok(())
 }
 
 /// Appends the characters of a text, with `\n`, `\r`, `\t` and `\\` for LF, CR, tab and `\`, and
 /// LF.
-pub fn say_text<T: Chars, L: Ledger>(
+pub(crate) fn say_text<T: Chars, L: Ledger>(
     text: &T,
     reply: &mut Vec<u8>,
     steps: &mut Steps<L>,

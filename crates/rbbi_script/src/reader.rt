@@ -30,7 +30,7 @@ pub type ScriptErr = LinesErr;
 /// and may be empty. In it `\n`, `\r`, `\t`, `\\` and `\u{H..}`, of one to six hexadecimal digits
 /// of a character, are escapes, and any other `\` makes the line bad.
 ///
-/// Refuses `NotUtf8` with the first byte past the longest valid front, `BadLine` with the first
+/// Refuses `NotUtf8` with the first byte past the longest valid prefix, `BadLine` with the first
 /// line that is neither skipped nor of these forms, and `Memory`.
 pub fn read_script(alloc: Global, bytes: &[u8]) -> Result<Commands, ScriptErr>
     requires { length bytes.now ≤ most_bytes }

@@ -30,7 +30,7 @@ pub enum Said {
     TooLong,
 }
 
-/// Appends a number and the end of the line, or a front of these where memory runs out.
+/// Appends a number and the end of the line, or a prefix of these where memory runs out.
 fn say_number(number: u32, reply: &mut Vec<u8>) -> Result<(), AllocError>
     ensures { Appends reply.old.items (decimal number ++ 10 ∷ []) result reply.new.items }
 {
@@ -39,7 +39,7 @@ fn say_number(number: u32, reply: &mut Vec<u8>) -> Result<(), AllocError>
 }
 
 /// Appends the line of a reply to a script: the place or number in decimal, `done`, `yes`, `no`,
-/// `ok` and the new length, `outside`, `inside` or `toolong`, and LF. After the refusal a front of
+/// `ok` and the new length, `outside`, `inside` or `toolong`, and LF. After the refusal a prefix of
 /// the line was appended.
 pub fn say(said: Said, reply: &mut Vec<u8>) -> Result<(), AllocError>
     ensures { Appends reply.old.items (reply_lines (reply_of said)) result reply.new.items }

@@ -8,7 +8,7 @@ ghost use Rattle.rbbi_script.specs.inner.Statuses.{next_status};
 use rbbi_text::{append, append_number};
 use std::alloc::AllocError;
 
-/// Appends a comma and a status in decimal, or a front of that where memory runs out.
+/// Appends a comma and a status in decimal, or a prefix of that where memory runs out.
 fn say_next(status: u32, reply: &mut Vec<u8>) -> Result<(), AllocError>
     ensures { Appends reply.old.items (next_status status) result reply.new.items }
 {
@@ -16,7 +16,7 @@ fn say_next(status: u32, reply: &mut Vec<u8>) -> Result<(), AllocError>
     append_number(status, reply)
 }
 
-/// Appends statuses, each behind a comma, or a front of that where memory runs out.
+/// Appends statuses, each behind a comma, or a prefix of that where memory runs out.
 fn say_others(statuses: &[u32], reply: &mut Vec<u8>) -> Result<(), AllocError>
     ensures { Appends reply.old.items (flat_map next_status statuses.now) result reply.new.items }
 {
@@ -26,7 +26,7 @@ fn say_others(statuses: &[u32], reply: &mut Vec<u8>) -> Result<(), AllocError>
     Ok(())
 }
 
-/// Appends statuses in decimal with commas between, or a front of that where memory runs out.
+/// Appends statuses in decimal with commas between, or a prefix of that where memory runs out.
 fn say_joined(list: &[u32], reply: &mut Vec<u8>) -> Result<(), AllocError>
     ensures { Appends reply.old.items (joined_statuses list.now) result reply.new.items }
 {
@@ -38,7 +38,7 @@ fn say_joined(list: &[u32], reply: &mut Vec<u8>) -> Result<(), AllocError>
 }
 
 /// Appends the line of a list of statuses: the numbers in decimal with commas between, and LF.
-/// After the refusal a front of the line was appended.
+/// After the refusal a prefix of the line was appended.
 pub fn say_list(list: &[u32], reply: &mut Vec<u8>) -> Result<(), AllocError>
     ensures { Appends reply.old.items (reply_lines (AllOf list.now)) result reply.new.items }
 {
@@ -47,7 +47,7 @@ pub fn say_list(list: &[u32], reply: &mut Vec<u8>) -> Result<(), AllocError>
 }
 
 /// Appends the line of a boundary: its place, a space, its statuses with commas between, and LF.
-/// After the refusal a front of the line was appended.
+/// After the refusal a prefix of the line was appended.
 pub fn say_bound(at: u32, list: &[u32], reply: &mut Vec<u8>) -> Result<(), AllocError>
     ensures { Appends reply.old.items
         (boundary_line (record { at = at; statuses = list.now })) result reply.new.items }

@@ -1,7 +1,7 @@
 -- Edits of a session whose places count a unit, by those of the session by characters.
-use Rattle.std.proofs.Common.{◌≡◌, ℕ, ◌+◌, ◌-◌, ◌<◌, ◌≤◌, true, false, cond, ltb, eqb, List, Option, Some, None, length, refl, sym, ap, ◌∙◌, subst}
+use Rattle.std.proofs.Common.{◌≡◌, ℕ, ◌+◌, ◌-◌, ◌≤◌, true, false, cond, ltb, eqb, List, Option, Some, None, length, refl, sym, ap, ◌∙◌, subst}
 use Rattle.std.proofs.Common.{⊎_elim, arith}
-use Rattle.std.proofs.lemmas.Bool.{cases_Bool, cond-true, cond-false, lt-ltb, le-ltb, eq-eqb, eqb-true, false≢true}
+use Rattle.std.proofs.lemmas.Bool.{cases_Bool, cond-true, cond-false, le-ltb, eq-eqb, eqb-true, false≢true}
 use Rattle.rbbi_model.specs.declared.unit.Unit.{Unit as TextUnit}
 use Rattle.rbbi_model.specs.Words.{most_characters}
 use Rattle.rbbi_model.specs.Places.{greatest_below}
@@ -50,12 +50,6 @@ module _ (unit : TextUnit) (x : List ℕ) (o : ℕ) (index : Index) (is : IsInde
   place_at_inside isnt = inside_from (place_at unit x o) isnt refl
 
 module _ (unit : TextUnit) (x : List ℕ) (at removed : ℕ) (w : List ℕ) where
-  pub edit_outside : offset_of unit x (length x) < at + removed → edit_in unit x at removed w ≡ Refused Outside
-  edit_outside past =
-      cond-true (ltb (offset_of unit x (length x)) (at + removed)) (Refused Outside) (edit_between unit x (place_at unit x at) (place_at unit x
-      (at + removed)) w)
-      (lt-ltb (offset_of unit x (length x)) (at + removed) past)
-
   within : at + removed ≤ offset_of unit x (length x) →
       edit_in unit x at removed w ≡ edit_between unit x (place_at unit x at) (place_at unit x (at + removed)) w
   within low =

@@ -1,20 +1,17 @@
 -- What is told of the output of a command.
 use Rattle.std.proofs.Common.{◌≡◌, ◌<◌, ◌≤◌, inl, inr, ℕ, zero, suc, List, [], ◌∷◌, length, sym, ap, ◌∙◌, subst, refl, arith}
-use Rattle.std.specs.Prelude.{Some, IfSome, slice_get, if◌then◌else◌, ◌==◌, Option, None}
+use Rattle.std.specs.Prelude.{Some, IfSome, slice_get, if◌then◌else◌, ◌==◌}
 use Rattle.std.proofs.lemmas.Bool.{cond_both}
 use Rattle.rbbi_command.specs.declared.words.command.Command.{Command}
 use Rattle.rbbi_command.specs.declared.words.command.Command.TheVariants.{Check, Compile, Upgrade, Same, Breaks, Run, Conform, Tally, Demo}
 use Rattle.rbbi_command.specs.declared.words.command.Operand.{Operand}
 use Rattle.rbbi_command.specs.declared.words.command.Operand.TheVariants.{Read, Written}
 use Rattle.rbbi_command.specs.declared.files.Role.TheVariants.{Rules, Table}
-use Rattle.rbbi_command.specs.declared.words.setting.FilterKind.{FilterKind}
 use Rattle.rbbi_command.specs.Refusals.{Outcome}
 use Rattle.rbbi_command.specs.Words.{Request, operands_of}
 use Rattle.rbbi_command.specs.Inputs.{Inputs}
 use Rattle.rbbi_tool.specs.Program.{nth, command_stage}
 use Rattle.rbbi_tool.specs.Causes.{IsWrittenBy}
-use Rattle.rbbi_tool.specs.Command.Breaks.{breaks_by}
-use Rattle.rbbi_tool.specs.Command.Run.{play_by}
 use Rattle.rbbi_tool.specs.Command.Conform.{failed_count}
 
 -- what is told of the output of a command: its status, and the file that it writes
@@ -40,19 +37,6 @@ second_is_written request first are count =
       is = nth_is request.operands 1 (omega arith);
     }
 
--- boundaries and replies, also through a filter
-module _ (request : Request) (inputs : Inputs) (outcome : Outcome) where
-  breaks_told : (filter : Option FilterKind) → (breaks_by filter request.options inputs).passes outcome → IsToldOf request outcome
-  breaks_told None (basis, passed, (x, taken, (boundaries, are, told))) = told_of request outcome _ told (record { status = omega arith; file = tt })
-  breaks_told (Some kind) (filtered, passed, (x, taken, (boundaries, are, told))) =
-      told_of request outcome _ told (record { status = omega arith; file = tt })
-
-  run_told : (filter : Option FilterKind) → (play_by filter request.options inputs).passes outcome → IsToldOf request outcome
-  run_told None (basis, passed, (x, taken, (commands, read, (replies, are, told)))) =
-      told_of request outcome _ told (record { status = omega arith; file = tt })
-  run_told (Some kind) (filtered, passed, (x, taken, (commands, read, (replies, are, told)))) =
-      told_of request outcome _ told (record { status = omega arith; file = tt })
-
 -- the output of a command
 pub command_told : (command : Command) (request : Request) (inputs : Inputs) (outcome : Outcome) → request.command ≡ command
     → length request.operands ≡ length (operands_of request.command request.options.by_table)
@@ -69,8 +53,10 @@ command_told Same request inputs outcome is count (u, passed, (rules, mean, (oth
     told_of request outcome _ told (record { status = omega arith; file = tt })
 command_told Same request inputs outcome is count (u, passed, (rules, mean, (others, mean', inr (w, differ, told)))) =
     told_of request outcome _ told (record { status = omega arith; file = tt })
-command_told Breaks request inputs outcome is count passed = breaks_told request inputs outcome request.options.filter passed
-command_told Run request inputs outcome is count passed = run_told request inputs outcome request.options.filter passed
+command_told Breaks request inputs outcome is count (by, passed, (x, taken, (boundaries, are, told))) =
+    told_of request outcome _ told (record { status = omega arith; file = tt })
+command_told Run request inputs outcome is count (by, passed, (x, taken, (commands, read, (replies, are, told)))) =
+    told_of request outcome _ told (record { status = omega arith; file = tt })
 command_told Tally request inputs outcome is count (basis, passed, (x, taken, (commands, read, tell))) =
     told_of request outcome _ tell.is (record { status = omega arith; file = tt })
 command_told Demo request inputs outcome is count (number, written, (rules, passed, told)) =

@@ -1,20 +1,16 @@
 -- The bytes that count of the files that a request names, and what a command reads of them.
-use Rattle.std.proofs.Common.{◌≡◌, ℕ, ◌+◌, ◌<◌, ◌≤◌, List, [], ◌∷◌, length, take, get_or, refl, ap, ◌∙◌, subst, inl, inr, ⊎_elim, arith}
-use Rattle.std.specs.Prelude.{◌⊎◌, sum_by, Option, Some, None, IfSome}
+use Rattle.std.proofs.Common.{◌≡◌, ℕ, ◌+◌, ◌<◌, ◌≤◌, List, [], ◌∷◌, length, take, get_or, refl, ap, ◌∙◌, subst, inl, inr, arith}
+use Rattle.std.specs.Prelude.{◌⊎◌, sum_by, Option, None, IfSome}
 use Rattle.std.proofs.lemmas.List.Sums.{sum_by-append, sum_by-cons, sum_by_more, sum_by-take-le}
 use Rattle.rbbi_model.specs.Tables.{Table}
 use Rattle.rbbi_model.specs.Scripts as model
-use Rattle.rbbi_model.specs.Answers as question
-use Rattle.rbbi_model.specs.Costs.{script_cost, breaks_cost}
 use Rattle.rbbi_text.specs.Steps.{RisesUpTo}
 use Rattle.rbbi_command.specs.declared.words.command.Command.{Command}
 use Rattle.rbbi_command.specs.declared.words.command.Command.TheVariants.{Check, Compile, Upgrade, Same, Breaks, Run, Conform, Tally, Demo}
 use Rattle.rbbi_command.specs.declared.files.Role.{Role}
 use Rattle.rbbi_command.specs.declared.files.Role.TheVariants as role
 use Rattle.rbbi_command.specs.declared.files.Source.{Source}
-use Rattle.rbbi_filter.specs.FilterCosts.{commands_through}
-use Rattle.rbbi_command.specs.declared.words.setting.FilterKind.{FilterKind}
-use Rattle.rbbi_command.specs.Settings.{Options}
+use Rattle.rbbi_filter.specs.declared.filter.Filter.{Filter}
 use Rattle.rbbi_command.specs.Stages.{Stage, gives}
 use Rattle.rbbi_command.specs.Words.{Request, IsCommandLine}
 use Rattle.rbbi_command.specs.Files.{sources_of}
@@ -22,10 +18,9 @@ use Rattle.rbbi_command.specs.Inputs.{Inputs, no_inputs, put, with_files, inputs
 use Rattle.rbbi_command.specs.Reads.{MakesSomeReads, AreRead}
 use Rattle.rbbi_tool.specs.Texts.{text_stage}
 use Rattle.rbbi_tool.specs.Scripts.{script_stage}
-use Rattle.rbbi_tool.specs.Basis.{Basis, IsTableOf, basis_stage}
-use Rattle.rbbi_tool.specs.Steps.{counted, named_bytes, ReadsForBreaks, ReadsForScript, tally_cost, CommandReads, RequestReads, ReadsThrough}
-use Rattle.rbbi_tool.specs.Steps.{BreaksReads, RunReads}
-use Rattle.rbbi_tool.specs.Filters.{FilteredBasis, filtered_stage}
+use Rattle.rbbi_tool.specs.Basis.{IsTableOf}
+use Rattle.rbbi_tool.specs.Steps.{counted, named_bytes, ReadsFor, list_cost, replies_cost, tally_cost, CommandReads, RequestReads}
+use Rattle.rbbi_tool.specs.Filters.{FilteredBasis, behind_filter, filtered_stage}
 use Rattle.rbbi_tool.specs.inner.Steps.{given_bytes, ReadsInOrder}
 use Rattle.rbbi_tool.specs.inner.Prepared.{ReadsByEnd}
 use Rattle.rbbi_command.proofs.Forms.{same_request}
@@ -55,41 +50,12 @@ pub rises_twice : (first second begun steps steps' : ℕ) → RisesUpTo first be
 rises_twice first second begun steps steps' paid paid' =
     record { more = omega (arith, paid.more, paid'.more); cost = omega (arith, paid.cost, paid'.cost) }
 
-module _ (basis : Stage Basis) (text : Stage (List ℕ)) (bytes before between after : ℕ) (by : Basis) (table : Table) (x : List ℕ)
-    (passes : basis.passes by) (table_is : IsTableOf table by) (text_is : text.passes x) (paid : RisesUpTo bytes before between) where
-  -- what is read for all boundaries, and for the replies to a script
-  pub listing_reads : RisesUpTo (breaks_cost table x 0) between after → RisesUpTo bytes before after ⊎ ReadsForBreaks basis text bytes before after
-  listing_reads cost = inr (record {
-    by = by;
-    table = table;
-    x = x;
-    passes = passes;
-    table_is = table_is;
-    text_is = text_is;
-    reads = rises_twice bytes (breaks_cost table x 0) before between after paid cost;
-  })
-
-  pub replies_read : (script : Stage (List model.Command)) (cost_of : Table → List ℕ → List model.Command → ℕ) (commands : List model.Command)
-      → script.passes commands → RisesUpTo (cost_of table x commands) between after
-      → RisesUpTo bytes before after ⊎ ReadsForScript basis text script cost_of bytes before after
-  replies_read script cost_of commands script_is cost = inr (record {
-    by = by;
-    table = table;
-    x = x;
-    commands = commands;
-    passes = passes;
-    table_is = table_is;
-    text_is = text_is;
-    script_is = script_is;
-    reads = rises_twice bytes (cost_of table x commands) before between after paid cost;
-  })
-
--- what is read for the replies to commands through a filter
-pub told_reads : (filtered : Stage FilteredBasis) (text : Stage (List ℕ)) (script : Stage (List model.Command)) (bytes before between after : ℕ)
-    (by : FilteredBasis) (table : Table) (x : List ℕ) (commands : List model.Command) → filtered.passes by → IsTableOf table by.basis → text.passes x
-    → script.passes commands → RisesUpTo bytes before between → RisesUpTo (commands_through by.filter table (model.opened x) commands) between after
-    → RisesUpTo bytes before after ⊎ ReadsThrough filtered text script bytes before after
-told_reads filtered text script bytes before between after by table x commands passes table_is text_is script_is paid cost = inr (record {
+-- what is read for the lines of boundaries, of replies or of counts
+pub reads_for : (filtered : Stage FilteredBasis) (text : Stage (List ℕ)) (script : Stage (List model.Command))
+    (cost_of : Option Filter → Table → List ℕ → List model.Command → ℕ) (bytes before between after : ℕ) (by : FilteredBasis) (table : Table) (x : List ℕ)
+    (commands : List model.Command) → filtered.passes by → IsTableOf table by.basis → text.passes x → script.passes commands → RisesUpTo bytes before between
+    → RisesUpTo (cost_of by.filter table x commands) between after → ReadsFor filtered text script cost_of bytes before after
+reads_for filtered text script cost_of bytes before between after by table x commands passes table_is text_is script_is paid cost = record {
   by = by;
   table = table;
   x = x;
@@ -98,8 +64,8 @@ told_reads filtered text script bytes before between after by table x commands p
   table_is = table_is;
   text_is = text_is;
   script_is = script_is;
-  reads = rises_twice bytes (commands_through by.filter table (model.opened x) commands) before between after paid cost;
-})
+  reads = rises_twice bytes (cost_of by.filter table x commands) before between after paid cost;
+}
 
 -- where nothing is read, nothing is over the bound
 command_reads_none : (command : Command) (request : Request) (inputs : Inputs) (bytes before after : ℕ) → RisesUpTo 0 before after
@@ -149,63 +115,25 @@ module _ (held : List ℕ → List ℕ) where
   given_named : (request : Request) → given_bytes (inputs_of held (sources_of request)) ≤ named_bytes held request
   given_named request = omega (arith, files_counted (sources_of request) no_inputs)
 
--- a script reads no more than may be
-script_further : (basis : Stage Basis) (text : Stage (List ℕ)) (script : Stage (List model.Command)) (cost_of : Table → List ℕ → List model.Command → ℕ)
-    (few many before after : ℕ) → few ≤ many → ReadsForScript basis text script cost_of few before after
-    → ReadsForScript basis text script cost_of many before after
-script_further basis text script cost_of few many before after less r =
-    let cost : ℕ = cost_of r.table r.x r.commands in
-    record {
-      by = r.by;
-      table = r.table;
-      x = r.x;
-      commands = r.commands;
-      passes = r.passes;
-      table_is = r.table_is;
-      text_is = r.text_is;
-      script_is = r.script_is;
-      reads = rises_further (few + cost) (many + cost) before after r.reads (omega (arith, less));
-    }
-
-through_further : (filtered : Stage FilteredBasis) (text : Stage (List ℕ)) (script : Stage (List model.Command)) (few many before after : ℕ) → few ≤ many
-    → ReadsThrough filtered text script few before after → ReadsThrough filtered text script many before after
-through_further filtered text script few many before after less r =
-    let cost : ℕ = commands_through r.by.filter r.table (model.opened r.x) r.commands in
-    record {
-      by = r.by;
-      table = r.table;
-      x = r.x;
-      commands = r.commands;
-      passes = r.passes;
-      table_is = r.table_is;
-      text_is = r.text_is;
-      script_is = r.script_is;
-      reads = rises_further (few + cost) (many + cost) before after r.reads (omega (arith, less));
-    }
-
 -- answering reads no more than may be
-module _ (options : Options) (inputs : Inputs) (few many before after : ℕ) (less : few ≤ many) where
-  breaks_further : (filter : Option FilterKind) → BreaksReads filter options inputs few before after → BreaksReads filter options inputs many before after
-  breaks_further None r =
-      let cost : ℕ = breaks_cost r.table r.x 0 in
-      record {
-        by = r.by;
-        table = r.table;
-        x = r.x;
-        passes = r.passes;
-        table_is = r.table_is;
-        text_is = r.text_is;
-        reads = rises_further (few + cost) (many + cost) before after r.reads (omega (arith, less));
-      }
-  breaks_further (Some kind) r =
-      through_further (filtered_stage kind options inputs) (text_stage inputs.text) (gives (model.Ask question.Breaks ∷ [])) few many before after less r
-
-  run_further : (filter : Option FilterKind) → RunReads filter options inputs few before after → RunReads filter options inputs many before after
-  run_further None r =
-      script_further (basis_stage options inputs) (text_stage inputs.text) (script_stage inputs.script) (λ table. script_cost table options.unit) few many
-      before after less r
-  run_further (Some kind) r =
-      through_further (filtered_stage kind options inputs) (text_stage inputs.text) (script_stage inputs.script) few many before after less r
+reads_further_for : (filtered : Stage FilteredBasis) (text : Stage (List ℕ)) (script : Stage (List model.Command))
+    (cost_of : Option Filter → Table → List ℕ → List model.Command → ℕ) (few many before after : ℕ) → few ≤ many
+    → RisesUpTo few before after ⊎ ReadsFor filtered text script cost_of few before after
+    → RisesUpTo many before after ⊎ ReadsFor filtered text script cost_of many before after
+reads_further_for filtered text script cost_of few many before after less (inl paid) = inl (rises_further few many before after paid less)
+reads_further_for filtered text script cost_of few many before after less (inr r) =
+    let cost : ℕ = cost_of r.by.filter r.table r.x r.commands in
+    inr (record {
+      by = r.by;
+      table = r.table;
+      x = r.x;
+      commands = r.commands;
+      passes = r.passes;
+      table_is = r.table_is;
+      text_is = r.text_is;
+      script_is = r.script_is;
+      reads = rises_further (few + cost) (many + cost) before after r.reads (omega (arith, less));
+    })
 
 -- a command reads no more than may be
 reads_further : (command : Command) (request : Request) (inputs : Inputs) (few many before after : ℕ) → few ≤ many
@@ -217,15 +145,14 @@ reads_further Compile request inputs few many before after less reads = tt
 reads_further Conform request inputs few many before after less reads = tt
 reads_further Demo request inputs few many before after less reads = tt
 reads_further Breaks request inputs few many before after less reads =
-    ⊎_elim (λ paid. inl (rises_further few many before after paid less))
-    (λ r. inr (breaks_further request.options inputs few many before after less request.options.filter r)) reads
+    reads_further_for (filtered_stage request.options inputs) (text_stage inputs.text) (gives []) (λ filter table x commands. list_cost filter table x) few many
+    before after less reads
 reads_further Run request inputs few many before after less reads =
-    ⊎_elim (λ paid. inl (rises_further few many before after paid less))
-    (λ r. inr (run_further request.options inputs few many before after less request.options.filter r)) reads
+    reads_further_for (filtered_stage request.options inputs) (text_stage inputs.text) (script_stage inputs.script)
+    (λ filter. replies_cost filter request.options.unit) few many before after less reads
 reads_further Tally request inputs few many before after less reads =
-    ⊎_elim (λ paid. inl (rises_further few many before after paid less))
-    (λ r. inr (script_further (basis_stage request.options inputs) (text_stage inputs.text) (script_stage inputs.script) tally_cost few many before after
-    less r)) reads
+    reads_further_for (behind_filter request.options inputs None) (text_stage inputs.text) (script_stage inputs.script) (λ filter. tally_cost) few many before
+    after less reads
 
 -- no file is read
 pub reads_nothing : (words : List (List ℕ)) (contents : Option (List ℕ → List ℕ)) (reads : List ℕ → ℕ) (steps : ℕ)

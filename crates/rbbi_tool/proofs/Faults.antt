@@ -25,9 +25,7 @@ use Rattle.rbbi_tool.specs.Scripts.{lines_fault}
 use Rattle.rbbi_props.specs.Rows.{File}
 use Rattle.rbbi_tool.specs.Basis.{compiled_bytes_stage, compiled_with, compiled_stage, basis_by, basis_stage}
 use Rattle.rbbi_tool.specs.Command.Same.{told_of_second, as_second, second_stage}
-use Rattle.rbbi_tool.specs.Filters.{filter_stage, filtered_stage}
-use Rattle.rbbi_tool.specs.Command.Breaks.{breaks_by}
-use Rattle.rbbi_tool.specs.Command.Run.{play_by}
+use Rattle.rbbi_tool.specs.Filters.{filter_stage, filtered_by}
 use Rattle.rbbi_tool.specs.Program.{command_stage}
 
 -- a fault of a file ends the run
@@ -70,7 +68,7 @@ compiled_fault : (options : Options) (inputs : Inputs) → Faults (compiled_stag
 compiled_fault options inputs r (inl is) = properties_fault options.properties inputs.properties r is
 compiled_fault options inputs r (inr (u, passed, is)) = compiled_with_fault options inputs r is
 
--- faults that are told of the second rule file
+-- faults that are reported of the second rule file
 second_is_fault : (r : Refusal) → IsFault r → IsFault (told_of_second r)
 unfolding IsFault
 second_is_fault Usage is = is
@@ -116,30 +114,14 @@ filter_fault : (kind : FilterKind) (file : Input) → Faults (filter_stage kind 
 filter_fault Abbreviations file r is = lines_fault_is _ is.error r is.not_memory is.is
 filter_fault Pairs file r is = lines_fault_is _ is.error r is.not_memory is.is
 
-filtered_fault : (kind : FilterKind) (options : Options) (inputs : Inputs) → Faults (filtered_stage kind options inputs)
-filtered_fault kind options inputs r (inl is) = properties_fault options.properties inputs.properties r is
-filtered_fault kind options inputs r (inr (u, passed, inl is)) = filter_fault kind inputs.filter r is
-filtered_fault kind options inputs r (inr (u, passed, inr (filter, read, inl is))) = basis_fault options inputs r is
-filtered_fault kind options inputs r (inr (u, passed, inr (filter, read, inr (basis, found, never)))) = absurd never
-
--- boundaries and replies, also through a filter
-breaks_fault : (filter : Option FilterKind) (options : Options) (inputs : Inputs) → Faults (breaks_by filter options inputs)
-breaks_fault None options inputs r (inl is) = basis_fault options inputs r is
-breaks_fault None options inputs r (inr (basis, passed, inl is)) = text_fault inputs.text r is
-breaks_fault None options inputs r (inr (basis, passed, inr (x, taken, never))) = absurd never
-breaks_fault (Some kind) options inputs r (inl is) = filtered_fault kind options inputs r is
-breaks_fault (Some kind) options inputs r (inr (filtered, passed, inl is)) = text_fault inputs.text r is
-breaks_fault (Some kind) options inputs r (inr (filtered, passed, inr (x, taken, never))) = absurd never
-
-run_fault : (filter : Option FilterKind) (options : Options) (inputs : Inputs) → Faults (play_by filter options inputs)
-run_fault None options inputs r (inl is) = basis_fault options inputs r is
-run_fault None options inputs r (inr (basis, passed, inl is)) = text_fault inputs.text r is
-run_fault None options inputs r (inr (basis, passed, inr (x, taken, inl is))) = lines_fault_is _ is.error r is.not_memory is.is
-run_fault None options inputs r (inr (basis, passed, inr (x, taken, inr (commands, read, never)))) = absurd never
-run_fault (Some kind) options inputs r (inl is) = filtered_fault kind options inputs r is
-run_fault (Some kind) options inputs r (inr (filtered, passed, inl is)) = text_fault inputs.text r is
-run_fault (Some kind) options inputs r (inr (filtered, passed, inr (x, taken, inl is))) = lines_fault_is _ is.error r is.not_memory is.is
-run_fault (Some kind) options inputs r (inr (filtered, passed, inr (x, taken, inr (commands, read, never)))) = absurd never
+-- what boundaries come by, also behind a filter
+filtered_fault : (kind : Option FilterKind) (options : Options) (inputs : Inputs) → Faults (filtered_by kind options inputs)
+filtered_fault None options inputs r (inl is) = basis_fault options inputs r is
+filtered_fault None options inputs r (inr (basis, found, never)) = absurd never
+filtered_fault (Some kind) options inputs r (inl is) = properties_fault options.properties inputs.properties r is
+filtered_fault (Some kind) options inputs r (inr (u, passed, inl is)) = filter_fault kind inputs.filter r is
+filtered_fault (Some kind) options inputs r (inr (u, passed, inr (filter, read, inl is))) = basis_fault options inputs r is
+filtered_fault (Some kind) options inputs r (inr (u, passed, inr (filter, read, inr (basis, found, never)))) = absurd never
 
 -- commands
 pub command_fault : (command : Command) (request : Request) (inputs : Inputs) (r : Refusal)
@@ -152,8 +134,13 @@ command_fault Upgrade request inputs r (inl is) = is_fault _ _ _ r is.is
 command_fault Upgrade request inputs r (inr (table, passed, never)) = absurd never
 command_fault Same request inputs r (inl is) = compiled_fault request.options inputs r is
 command_fault Same request inputs r (inr (rules, mean, is)) = second_stage_fault _ _ inputs rules r is
-command_fault Breaks request inputs r is = breaks_fault request.options.filter request.options inputs r is
-command_fault Run request inputs r is = run_fault request.options.filter request.options inputs r is
+command_fault Breaks request inputs r (inl is) = filtered_fault request.options.filter request.options inputs r is
+command_fault Breaks request inputs r (inr (by, passed, inl is)) = text_fault inputs.text r is
+command_fault Breaks request inputs r (inr (by, passed, inr (x, taken, never))) = absurd never
+command_fault Run request inputs r (inl is) = filtered_fault request.options.filter request.options inputs r is
+command_fault Run request inputs r (inr (by, passed, inl is)) = text_fault inputs.text r is
+command_fault Run request inputs r (inr (by, passed, inr (x, taken, inl is))) = lines_fault_is _ is.error r is.not_memory is.is
+command_fault Run request inputs r (inr (by, passed, inr (x, taken, inr (commands, read, never)))) = absurd never
 command_fault Tally request inputs r (inl is) = basis_fault request.options inputs r is
 command_fault Tally request inputs r (inr (basis, passed, inl is)) = text_fault inputs.text r is
 command_fault Tally request inputs r (inr (basis, passed, inr (x, taken, inl is))) = lines_fault_is _ is.error r is.not_memory is.is

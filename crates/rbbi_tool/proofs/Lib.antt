@@ -8,10 +8,8 @@ pub mod Telling
 pub mod Numbers
 pub mod Bases
 pub mod Verdicts
-pub mod Replies
-pub mod Told
-pub mod ToldLines
-pub mod ToldReplies
+pub mod Reported
+pub mod ReportedLines
 pub mod Commands
 pub mod Faults
 pub mod Runs

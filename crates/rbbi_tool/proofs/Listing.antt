@@ -38,7 +38,7 @@ pub record WritesEach (line : Boundary → List ℕ) (lines : List Boundary → 
   pub none : lines [] ≡ []
   pub one : (b : Boundary) (bs : List Boundary) → lines (b ∷ bs) ≡ line b ++ lines bs
 
--- The lines of the boundaries up to a place were made, those that follow it are the rest, and a front of them was put.
+-- The lines of the boundaries up to a place were made, those that follow it are the rest, and a prefix of them was put.
 pub record AreListedTo (lines : List Boundary → List ℕ) (table : Table) (x : List ℕ) (before now : Option (List ℕ)) (waiting : List ℕ) (at : ℕ) : Type 0
   where
     pub within : at ≤ length x

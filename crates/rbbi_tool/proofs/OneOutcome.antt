@@ -28,7 +28,7 @@ use Rattle.rbbi_file.specs.Laws.{SpellOneTable}
 use Rattle.rbbi_script.specs.Laws.{HaveOneScript}
 use Rattle.rbbi_filter.specs.declared.filter.Filter.{Filter}
 use Rattle.rbbi_filter.specs.declared.filter.Filter.TheVariants.{Suppressing, Turning}
-use Rattle.rbbi_filter.specs.Filters.{searched, told, AreBoundariesThrough}
+use Rattle.rbbi_filter.specs.Filters.{searched, reported, AreBoundariesThrough}
 use Rattle.rbbi_filter.specs.AbbreviationFiles.{ReadsAbbreviations}
 use Rattle.rbbi_filter.specs.PairFiles.{ReadsPairs}
 use Rattle.rbbi_filter.specs.Laws.{HaveOneAnswer}
@@ -63,9 +63,9 @@ use Rattle.rbbi_command.specs.Inputs.{Inputs, inputs_of}
 use Rattle.rbbi_tool.specs.Command.Check.{counts_line}
 use Rattle.rbbi_tool.specs.Command.Compile.{table_outcome, TellsTable}
 use Rattle.rbbi_tool.specs.Command.Same.{IsComparison, comparison_stage, told_of_second, as_second, second_stage}
-use Rattle.rbbi_tool.specs.Command.Breaks.{boundaries_stage, told_boundaries_stage, breaks_by}
-use Rattle.rbbi_tool.specs.Command.Run.{AreRepliesFrom, replies_stage, told_replies_stage, play_by}
-use Rattle.rbbi_tool.specs.Filters.{FilteredBasis, filter_stage, behind_filter, filtered_stage, AreBoundariesToldBy, AreRepliesToldBy}
+use Rattle.rbbi_tool.specs.Command.Breaks.{boundaries_stage}
+use Rattle.rbbi_tool.specs.Command.Run.{replies_stage}
+use Rattle.rbbi_tool.specs.Filters.{FilteredBasis, filter_stage, behind_filter, filtered_by, filtered_stage, AreReportedBy, AreRepliesBasedOn}
 use Rattle.rbbi_tool.specs.Command.Conform.{told_verdicts, verdicts_stage}
 use Rattle.rbbi_tool.specs.Command.Tally.{counts_stage}
 use Rattle.rbbi_tool.specs.Command.Demo.{demo_rules, number_stage, summary_line, summary_stage}
@@ -259,76 +259,61 @@ module _ (laws : Laws) where
       determined_both (properties_stage options.properties inputs.properties) (λ _. basis_by options.by_table options inputs)
       (properties_determined options.properties inputs.properties) (λ _. by_determined options.by_table options inputs)
 
-  -- boundaries are determined
+  -- boundaries by a basis are determined
   same_boundaries : (basis : Basis) (x : List ℕ) (these those : List Boundary) → AreBoundariesBy basis x these → AreBoundariesBy basis x those → these ≡ those
   same_boundaries (ByRules rules) x these those are are' = laws.boundaries rules x these those are are'
   same_boundaries (ByTable table) x these those are are' = are ∙ sym are'
-
-  boundaries_determined : (basis : Basis) (unit : TextUnit) (x : List ℕ) → IsDeterministic Outcome (boundaries_stage basis unit x)
-  boundaries_determined basis unit x = record {
-    value = λ o p (bs, are, is) (cs, are', is').
-        is ∙ ap (λ list. printed (boundary_lines (measured unit x list))) (same_boundaries basis x bs cs are are') ∙ sym is';
-    refusal = λ r s is is'. absurd is;
-    apart = λ o r is is'. is';
-  }
-
-  -- replies are determined
-  same_replies : (basis : Basis) (unit : TextUnit) (x : List ℕ) (commands : List scripts.Command) (these those : List Reply)
-      → AreRepliesFrom basis unit x commands these → AreRepliesFrom basis unit x commands those → these ≡ those
-  same_replies (ByRules rules) unit x commands these those are are' = laws.replies rules unit x commands these those are are'
-  same_replies (ByTable table) unit x commands these those are are' = are ∙ sym are'
-
-  replies_determined : (basis : Basis) (unit : TextUnit) (x : List ℕ) (commands : List scripts.Command)
-      → IsDeterministic Outcome (replies_stage basis unit x commands)
-  replies_determined basis unit x commands = record {
-    value = λ o p (rs, are, is) (ss, are', is').
-        is ∙ ap (λ list. printed (all_reply_lines list)) (same_replies basis unit x commands rs ss are are') ∙ sym is';
-    refusal = λ r s is is'. absurd is;
-    apart = λ o r is is'. is';
-  }
 
   -- what boundaries come by behind a filter is determined
   filter_file_determined : (kind : FilterKind) (file : Input) → IsDeterministic Filter (filter_stage kind file)
   filter_file_determined Abbreviations file = filter_determined ReadsAbbreviations laws.abbreviations Suppressing file
   filter_file_determined Pairs file = filter_determined ReadsPairs laws.pairs Turning file
 
-  filtered_determined : (kind : FilterKind) (options : Options) (inputs : Inputs) → IsDeterministic FilteredBasis (filtered_stage kind options inputs)
-  filtered_determined kind options inputs =
+  behind_determined : (options : Options) (inputs : Inputs) (filter : Option Filter) → IsDeterministic FilteredBasis (behind_filter options inputs filter)
+  behind_determined options inputs filter =
+      determined_both (basis_stage options inputs) (λ basis. gives (record { filter = filter; basis = basis }))
+      (basis_determined options inputs) (λ basis. gives_determined (record { filter = filter; basis = basis }))
+
+  filtered_determined : (kind : Option FilterKind) (options : Options) (inputs : Inputs) → IsDeterministic FilteredBasis (filtered_by kind options inputs)
+  filtered_determined None options inputs = behind_determined options inputs None
+  filtered_determined (Some kind) options inputs =
       determined_both (properties_stage options.properties inputs.properties)
-      (λ _. followed_by (filter_stage kind inputs.filter) (behind_filter options inputs))
+      (λ _. followed_by (filter_stage kind inputs.filter) (λ filter. behind_filter options inputs (Some filter)))
       (properties_determined options.properties inputs.properties)
       (λ _.
-      determined_both (filter_stage kind inputs.filter) (behind_filter options inputs) (filter_file_determined kind inputs.filter)
-      (λ filter.
-      determined_both (basis_stage options inputs) (λ basis. gives (record { filter = filter; basis = basis }))
-      (basis_determined options inputs) (λ basis. gives_determined (record { filter = filter; basis = basis }))))
+      determined_both (filter_stage kind inputs.filter) (λ filter. behind_filter options inputs (Some filter)) (filter_file_determined kind inputs.filter)
+      (λ filter. behind_determined options inputs (Some filter)))
 
-  -- boundaries and replies that are told are determined
-  same_told : (basis : Basis) (filter : Filter) (x : List ℕ) (these those : List Boundary) → AreBoundariesToldBy basis filter x these
-      → AreBoundariesToldBy basis filter x those → these ≡ those
-  same_told (ByRules rules) filter x these those are are' =
-      are.2 ∙ ap (told filter x) (laws.boundaries rules (searched filter x) are.0 are'.0 are.1 are'.1) ∙ sym are'.2
-  same_told (ByTable table) filter x these those are are' = are ∙ sym are'
+  -- boundaries and replies that are reported are determined
+  same_reported : (basis : Basis) (filter : Option Filter) (unit : TextUnit) (x : List ℕ) (these those : List Boundary) → AreReportedBy basis filter unit x these
+      → AreReportedBy basis filter unit x those → these ≡ those
+  same_reported (ByRules rules) None unit x these those are are' =
+      are.2 ∙ ap (measured unit x) (laws.boundaries rules x are.0 are'.0 are.1 are'.1) ∙ sym are'.2
+  same_reported (ByRules rules) (Some filter) unit x these those are are' =
+      are.2 ∙ ap (reported filter x) (laws.boundaries rules (searched filter x) are.0 are'.0 are.1 are'.1) ∙ sym are'.2
+  same_reported (ByTable table) filter unit x these those are are' = are ∙ sym are'
 
-  told_boundaries_determined : (filtered : FilteredBasis) (x : List ℕ) → IsDeterministic Outcome (told_boundaries_stage filtered x)
-  told_boundaries_determined filtered x = record {
+  boundaries_determined : (by : FilteredBasis) (unit : TextUnit) (x : List ℕ) → IsDeterministic Outcome (boundaries_stage by unit x)
+  boundaries_determined by unit x = record {
     value = λ o p (bs, are, is) (cs, are', is').
-        is ∙ ap (λ list. printed (boundary_lines list)) (same_told filtered.basis filtered.filter x bs cs are are') ∙ sym is';
+        is ∙ ap (λ list. printed (boundary_lines list)) (same_reported by.basis by.filter unit x bs cs are are') ∙ sym is';
     refusal = λ r s is is'. absurd is;
     apart = λ o r is is'. is';
   }
 
-  same_told_replies : (basis : Basis) (filter : Filter) (x : List ℕ) (commands : List scripts.Command) (these those : List Reply)
-      → AreRepliesToldBy basis filter x commands these → AreRepliesToldBy basis filter x commands those → these ≡ those
-  same_told_replies (ByRules rules) filter x commands these those are are' =
-      same_from scripts.edit (AreBoundariesThrough filter rules) (same_told (ByRules rules) filter) (scripts.opened x) commands these those are are'
-  same_told_replies (ByTable table) filter x commands these those are are' = are ∙ sym are'
+  same_replies : (basis : Basis) (filter : Option Filter) (unit : TextUnit) (x : List ℕ) (commands : List scripts.Command) (these those : List Reply)
+      → AreRepliesBasedOn basis filter unit x commands these → AreRepliesBasedOn basis filter unit x commands those → these ≡ those
+  same_replies (ByRules rules) None unit x commands these those are are' = laws.replies rules unit x commands these those are are'
+  same_replies (ByRules rules) (Some filter) unit x commands these those are are' =
+      same_from scripts.edit (AreBoundariesThrough filter rules) (same_reported (ByRules rules) (Some filter) unit) (scripts.opened x) commands these those
+      are are'
+  same_replies (ByTable table) filter unit x commands these those are are' = are ∙ sym are'
 
-  told_replies_determined : (filtered : FilteredBasis) (x : List ℕ) (commands : List scripts.Command)
-      → IsDeterministic Outcome (told_replies_stage filtered x commands)
-  told_replies_determined filtered x commands = record {
+  replies_determined : (by : FilteredBasis) (unit : TextUnit) (x : List ℕ) (commands : List scripts.Command)
+      → IsDeterministic Outcome (replies_stage by unit x commands)
+  replies_determined by unit x commands = record {
     value = λ o p (rs, are, is) (ss, are', is').
-        is ∙ ap (λ list. printed (all_reply_lines list)) (same_told_replies filtered.basis filtered.filter x commands rs ss are are') ∙ sym is';
+        is ∙ ap (λ list. printed (all_reply_lines list)) (same_replies by.basis by.filter unit x commands rs ss are are') ∙ sym is';
     refusal = λ r s is is'. absurd is;
     apart = λ o r is is'. is';
   }
@@ -398,42 +383,23 @@ module _ (laws : Laws) where
       settled AreAlike (followed_by (basis_stage options inputs) next) alike
       (determined_both (basis_stage options inputs) next (basis_determined options inputs) each)
 
-  -- what comes through a filter is settled
-  by_filter : (kind : FilterKind) (options : Options) (inputs : Inputs) (next : FilteredBasis → List ℕ → Stage Outcome)
-      → ((filtered : FilteredBasis) (x : List ℕ) → IsDeterministic Outcome (next filtered x))
-      → IsSettled Outcome AreAlike (followed_by (filtered_stage kind options inputs) (λ filtered. followed_by (text_stage inputs.text) (next filtered)))
-  by_filter kind options inputs next each =
-      settled AreAlike (followed_by (filtered_stage kind options inputs) (λ filtered. followed_by (text_stage inputs.text) (next filtered))) alike
-      (determined_both (filtered_stage kind options inputs) (λ filtered. followed_by (text_stage inputs.text) (next filtered))
-      (filtered_determined kind options inputs)
-      (λ filtered. determined_both (text_stage inputs.text) (next filtered) (text_determined inputs.text) (each filtered)))
-
-  -- boundaries and replies are settled
-  breaks_settled : (filter : Option FilterKind) (options : Options) (inputs : Inputs) → IsSettled Outcome AreAlike (breaks_by filter options inputs)
-  breaks_settled None options inputs =
-      let text = text_stage inputs.text in
-      let unit = options.unit in
-      by_basis options inputs (λ basis. followed_by text (boundaries_stage basis unit))
-      (λ basis. determined_both text (boundaries_stage basis unit) (text_determined inputs.text) (boundaries_determined basis unit))
-  breaks_settled (Some kind) options inputs = by_filter kind options inputs told_boundaries_stage told_boundaries_determined
-
-  play_settled : (filter : Option FilterKind) (options : Options) (inputs : Inputs) → IsSettled Outcome AreAlike (play_by filter options inputs)
-  play_settled None options inputs =
-      let text = text_stage inputs.text in
-      let script = script_stage inputs.script in
-      let unit = options.unit in
-      by_basis options inputs (λ basis. followed_by text (λ x. followed_by script (replies_stage basis unit x)))
-      (λ basis. determined_both text (λ x. followed_by script (replies_stage basis unit x)) (text_determined inputs.text)
-      (λ x. determined_both script (replies_stage basis unit x) (script_determined laws.scripts inputs.script) (replies_determined basis unit x)))
-  play_settled (Some kind) options inputs =
-      let script = script_stage inputs.script in
-      by_filter kind options inputs (λ filtered x. followed_by script (told_replies_stage filtered x))
-      (λ filtered x.
-      determined_both script (told_replies_stage filtered x) (script_determined laws.scripts inputs.script) (told_replies_determined filtered x))
+  -- what is reported is settled
+  by_filter : (options : Options) (inputs : Inputs) (next : FilteredBasis → List ℕ → Stage Outcome)
+      → ((by : FilteredBasis) (x : List ℕ) → IsDeterministic Outcome (next by x))
+      → IsSettled Outcome AreAlike (followed_by (filtered_stage options inputs) (λ by. followed_by (text_stage inputs.text) (next by)))
+  by_filter options inputs next each =
+      settled AreAlike (followed_by (filtered_stage options inputs) (λ by. followed_by (text_stage inputs.text) (next by))) alike
+      (determined_both (filtered_stage options inputs) (λ by. followed_by (text_stage inputs.text) (next by))
+      (filtered_determined options.filter options inputs)
+      (λ by. determined_both (text_stage inputs.text) (next by) (text_determined inputs.text) (each by)))
 
   -- what a command answers is settled
   command_settled : (command : Command) (request : Request) (inputs : Inputs) → IsSettled Outcome AreAlike (command_stage command request inputs)
-  command_settled Run request inputs = play_settled request.options.filter request.options inputs
+  command_settled Run request inputs =
+      let script = script_stage inputs.script in
+      let unit = request.options.unit in
+      by_filter request.options inputs (λ by x. followed_by script (replies_stage by unit x))
+      (λ by x. determined_both script (replies_stage by unit x) (script_determined laws.scripts inputs.script) (replies_determined by unit x))
   command_settled Tally request inputs =
       let text = text_stage inputs.text in
       let script = script_stage inputs.script in
@@ -444,7 +410,9 @@ module _ (laws : Laws) where
       let tests = tests_stage inputs.tests in
       by_basis request.options inputs (λ basis. followed_by tests (verdicts_stage basis))
       (λ basis. determined_both tests (verdicts_stage basis) (tests_determined laws.tests inputs.tests) (verdicts_determined basis))
-  command_settled Breaks request inputs = breaks_settled request.options.filter request.options inputs
+  command_settled Breaks request inputs =
+      let unit = request.options.unit in
+      by_filter request.options inputs (λ by. boundaries_stage by unit) (λ by. boundaries_determined by unit)
   command_settled Demo request inputs =
       let word : List ℕ = nth request.operands 0 in
       settled AreAlike (command_stage Demo request inputs) alike

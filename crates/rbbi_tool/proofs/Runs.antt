@@ -184,7 +184,7 @@ module _ (words : List (List ℕ)) (contents : Option (List ℕ → List ℕ)) (
       }
   is_answer (Err Memory) comes told = absurd (told.0 refl)
 
-  -- a front of an answer whose file is held
+  -- a prefix of an answer whose file is held
   front_of_answer : (n : ℕ) (contents' : Option (List ℕ → List ℕ)) → IsAnswer words contents before now outcome
       → WhereTold contents contents' (HoldsFile outcome.file)
       → WhereTold contents contents' (λ held held'. IsPartOfAnswer words before now held held' (take n outcome.bytes))
@@ -213,7 +213,7 @@ module _ (words : List (List ℕ)) (contents contents' : Option (List ℕ → Li
       held_more contents contents' Q (TakesPart words before now taken taken') told
       (λ held held' q. ([], inl refl, subst (λ t. Takes taken t []) (sym same) (takes_nothing taken)))
 
-  -- the sink took nothing, or a front of the answer after its file was held
+  -- the sink took nothing, or a prefix of the answer after its file was held
   pub takes_front : (outcome : Outcome) (writes writes' : List ℕ → ℕ) → IsAnswer words contents before now outcome
       → TakesFront taken taken' outcome.bytes → WhereTold contents contents' (EachHoldsOrIsOutputFile outcome.file writes writes')
       → (taken' ≡ taken) ⊎ WhereTold contents contents' (HoldsFile outcome.file)

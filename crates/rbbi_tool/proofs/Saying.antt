@@ -24,11 +24,11 @@ module _ (old bytes rest new : List ℕ) (so_far : IsSaid old bytes rest new) wh
     appended = more ∙ ap (λ l. l ++ first) so_far.appended ∙ append_assoc old so_far.said first;
   }
 
-  -- the rest was appended, or a front of it
+  -- the rest was appended, or a prefix of it
   pub said_rest : {T E : Type 0} (new' : List ℕ) (r : Result T E) → Appends new rest r new' → Appends old bytes r new'
   said_rest new' r last = appends_then old so_far.said rest bytes new new' r so_far.appended so_far.parts last
 
-  -- a front of the next part was appended
+  -- a prefix of the next part was appended
   pub said_front : (first others new' : List ℕ) → rest ≡ first ++ others → AppendsFront new first new' → AppendsFront old bytes new'
   said_front first others new' parts front =
       front_later old so_far.said rest bytes new new' so_far.appended so_far.parts (front_first new first others rest new' parts front)

@@ -50,11 +50,11 @@ pub record ReadFails (words : List (List ℕ)) (contents : Option (List ℕ → 
 abbrev pub TellsFailedRead : List (List ℕ) → Option (List ℕ → List ℕ) → (List ℕ → ℕ) → (List ℕ → ℕ) → List ℕ → Type 0
 TellsFailedRead words contents before now line = (name : List ℕ) × ReadFails words contents before now name × (line ≡ unread_line name)
 
--- a front of the line
+-- a prefix of the line
 abbrev pub IsFrontOf : List ℕ → List ℕ → Type 0
 IsFrontOf piece line = (n : ℕ) × (piece ≡ take n line)
 
--- nothing; or a front of what is answered, where its file holds its bytes by now; or a front of the line that tells a failed read
+-- nothing; or a prefix of what is answered, where its file holds its bytes by now; or a prefix of the line that tells a failed read
 abbrev pub IsPartOfAnswer : List (List ℕ) → (List ℕ → ℕ) → (List ℕ → ℕ) → (List ℕ → List ℕ) → (List ℕ → List ℕ) → List ℕ → Type 0
 IsPartOfAnswer words before now held held' piece =
     (piece ≡ [])

@@ -1,15 +1,21 @@
--- What stands between a text and its boundaries, from the bytes of a filter file; and the boundaries and the replies that are told through it.
-use Rattle.std.specs.Prelude.{◌≡◌, ℕ, List, Ok, Err}
-use Rattle.rbbi_model.specs.Boundaries.{Boundary}
+-- What stands between a text and its boundaries, from the bytes of a filter file; and the boundaries and the replies that are reported.
+use Rattle.std.specs.Prelude.{◌≡◌, ℕ, List, Option, Some, None, Ok, Err}
+use Rattle.rbbi_model.specs.declared.unit.Unit.{Unit as TextUnit}
+use Rattle.rbbi_model.specs.Boundaries.{Boundary, AreBoundaries}
 use Rattle.rbbi_model.specs.Tables.{Table}
 use Rattle.rbbi_model.specs.Answers.{Reply}
-use Rattle.rbbi_model.specs.Scripts.{Command, State, edit, opened, AreRepliesBy, replies_by}
+use Rattle.rbbi_model.specs.Plays.{AreMeasured, AreReplies}
+use Rattle.rbbi_model.specs.Scripts.{Command, edit, opened, AreRepliesBy}
+use Rattle.rbbi_session.specs.Walks.{Kind}
+use Rattle.rbbi_session.specs.UnitWalks.{unit_kind}
+use Rattle.rbbi_script.specs.Performing.{replies_in}
 use Rattle.rbbi_filter.specs.AbbreviationFiles.{ReadsAbbreviations}
 use Rattle.rbbi_filter.specs.PairFiles.{ReadsPairs}
 use Rattle.rbbi_filter.specs.declared.pair.Pair.{Pair}
 use Rattle.rbbi_filter.specs.declared.filter.Filter.{Filter}
 use Rattle.rbbi_filter.specs.declared.filter.Filter.TheVariants.{Suppressing, Turning}
-use Rattle.rbbi_filter.specs.Filters.{boundaries_through, AreBoundariesThrough}
+use Rattle.rbbi_filter.specs.Filters.{AreBoundariesThrough}
+use Rattle.rbbi_filter.specs.FilterSessions.{filter_kind}
 use Rattle.rbbi_command.specs.declared.words.setting.FilterKind.{FilterKind}
 use Rattle.rbbi_command.specs.declared.words.setting.FilterKind.TheVariants.{Abbreviations, Pairs}
 use Rattle.rbbi_command.specs.declared.inputs.Input.{Input}
@@ -31,31 +37,39 @@ filter_stage Pairs file = record {
   refuses = TellsLinesFault (λ error. ReadsPairs file.bytes (Err error)) file.name;
 }
 
--- a filter, and what boundaries come by
+-- what boundaries come by, and through which filter they are reported, if there is one
 pub record FilteredBasis : Type 0 where
-  pub filter : Filter
+  pub filter : Option Filter
   pub basis : Basis
 
--- what boundaries come by, behind a filter
-abbrev pub behind_filter : Options → Inputs → Filter → Stage FilteredBasis
+-- what boundaries come by, behind a filter or none
+abbrev pub behind_filter : Options → Inputs → Option Filter → Stage FilteredBasis
 behind_filter options inputs filter = followed_by (basis_stage options inputs) (λ basis. gives (record { filter = filter; basis = basis }))
 
--- the filter of the filter file, behind the property files, and then what boundaries come by
-abbrev pub filtered_stage : FilterKind → Options → Inputs → Stage FilteredBasis
-filtered_stage kind options inputs =
+-- what boundaries come by; where a filter file is named, its filter comes before, and behind the property files
+abbrev pub filtered_by : Option FilterKind → Options → Inputs → Stage FilteredBasis
+filtered_by None options inputs = behind_filter options inputs None
+filtered_by (Some kind) options inputs =
     followed_by (properties_stage options.properties inputs.properties)
-    (λ _. followed_by (filter_stage kind inputs.filter) (behind_filter options inputs))
+    (λ _. followed_by (filter_stage kind inputs.filter) (λ filter. behind_filter options inputs (Some filter)))
 
--- these are the boundaries of the text that are told
-abbrev pub AreBoundariesToldBy : Basis → Filter → List ℕ → List Boundary → Type 0
-AreBoundariesToldBy (ByRules rules) filter x boundaries = AreBoundariesThrough filter rules x boundaries
-AreBoundariesToldBy (ByTable table) filter x boundaries = boundaries ≡ boundaries_through filter table x
+abbrev pub filtered_stage : Options → Inputs → Stage FilteredBasis
+filtered_stage options inputs = filtered_by options.filter options inputs
 
--- the replies to commands from a state on, by the boundaries that are told
-abbrev pub replies_through : Filter → Table → State → List Command → List Reply
-replies_through filter table state commands = replies_by edit (boundaries_through filter table) state commands
+-- what is reported of texts by a table: in the unit, or through the filter, with places in characters
+abbrev pub kind_in : Option Filter → TextUnit → Table → Kind
+kind_in None unit table = unit_kind table unit
+kind_in (Some filter) unit table = filter_kind filter table
 
--- these are the replies to the commands over the text, which the commands edit, by the boundaries that are told
-abbrev pub AreRepliesToldBy : Basis → Filter → List ℕ → List Command → List Reply → Type 0
-AreRepliesToldBy (ByRules rules) filter x commands replies = AreRepliesBy edit (AreBoundariesThrough filter rules) (opened x) commands replies
-AreRepliesToldBy (ByTable table) filter x commands replies = replies ≡ replies_through filter table (opened x) commands
+-- these are the boundaries of the text that are reported
+abbrev pub AreReportedBy : Basis → Option Filter → TextUnit → List ℕ → List Boundary → Type 0
+AreReportedBy (ByRules rules) None unit x boundaries = AreMeasured unit (AreBoundaries rules) x boundaries
+AreReportedBy (ByRules rules) (Some filter) unit x boundaries = AreBoundariesThrough filter rules x boundaries
+AreReportedBy (ByTable table) filter unit x boundaries = boundaries ≡ (kind_in filter unit table).boundaries x
+
+-- these are the replies to the commands over the text, which the commands edit, by the boundaries that are reported
+abbrev pub AreRepliesBasedOn : Basis → Option Filter → TextUnit → List ℕ → List Command → List Reply → Type 0
+AreRepliesBasedOn (ByRules rules) None unit x commands replies = AreReplies rules unit x commands replies
+AreRepliesBasedOn (ByRules rules) (Some filter) unit x commands replies =
+    AreRepliesBy edit (AreBoundariesThrough filter rules) (opened x) commands replies
+AreRepliesBasedOn (ByTable table) filter unit x commands replies = replies ≡ replies_in (kind_in filter unit table) (opened x) commands

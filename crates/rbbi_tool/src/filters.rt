@@ -1,8 +1,10 @@
 //! From the bytes of a filter file to its filter, and to the table that boundaries come by behind
 //! it.
-ghost use Rattle.std.specs.Prelude.{◌≡◌, ◌+◌, ◌≤◌, length};
+ghost use Rattle.std.specs.Prelude.{◌≡◌, ◌+◌, ◌≤◌, ℕ, List, length, Some, IfSome};
+ghost use Rattle.rbbi_model.specs.Words.{IsText};
 ghost use Rattle.rbbi_text.specs.Bytes.{most_bytes};
 ghost use Rattle.rbbi_text.specs.Steps.{RisesUpTo};
+ghost use Rattle.rbbi_filter.specs.Filters.{searched};
 ghost use Rattle.rbbi_command.specs.Requests.{options_in};
 ghost use Rattle.rbbi_command.specs.Inputs.{inputs_in, AreShort};
 ghost use Rattle.rbbi_tool.specs.inner.Stages.{Meets, Serves};
@@ -12,7 +14,7 @@ ghost use Rattle.rbbi_tool.specs.Filters as spec;
 
 use crate::properties::properties_of;
 use crate::scripts::lines_refusal;
-use crate::tables::table_behind;
+use crate::tables::{table_behind, table_from};
 use rbbi_command::{FilterKind, Input, Inputs, Options, Refusal};
 use rbbi_filter::{Abbreviations, Filter, Tailoring};
 use rbbi_table::Table;
@@ -20,11 +22,25 @@ use rbbi_text::Steps;
 use std::alloc::Global;
 use std::sync::ledger::Ledger;
 
-/// A filter, and the table that boundaries come by.
+/// The table that boundaries come by, and the filter through which they are reported, if there is
+/// one.
 #[derive(Drop)]
 pub(crate) struct FilteredTable {
-    pub(crate) filter: Filter,
+    pub(crate) filter: Option<Filter>,
     pub(crate) table: Table,
+}
+
+impl FilteredTable {
+    /// That what is searched in place of a text is a text. It is there for proofs, and does nothing
+    /// when it runs.
+    pub(crate) fn searches_texts(&self)
+        ensures { IfSome self.now.filter
+            (λ filter. (x : List ℕ) → IsText x → IsText (searched filter x)) }
+    {
+        if let Some(filter) = &self.filter {
+            filter.searches_texts();
+        }
+    }
 }
 
 /// The filter of a file of abbreviations, or of pairs.
@@ -51,10 +67,34 @@ fn filter_of<L: Ledger>(
     }
 }
 
-/// The filter that the options name, and the table that boundaries come by. The fault is the first
-/// of the property files, of the filter file, of the rules or the table file, and of the rules'
-/// table.
+/// The filter that the options name, if they name one, and the table that boundaries come by. The
+/// fault is the first of the property files, of the filter file, of the rules or the table file, and
+/// of the rules' table.
 pub(crate) fn filtered_from<L: Ledger>(
+    alloc: Global,
+    options: &Options,
+    inputs: &Inputs,
+    steps: &mut Steps<L>,
+) -> Result<FilteredTable, Refusal>
+    requires { AreShort (inputs_in inputs.now) }
+    ensures exact { Serves IsFilteredBy
+        (spec.filtered_stage (options_in options.now) (inputs_in inputs.now)) result }
+    ensures steps { RisesUpTo (filtered_bytes (inputs_in inputs.now)) steps.old steps.new }
+{
+    match options.filter {
+        None => {
+            let table = table_from(alloc, options, inputs, steps)?;
+            Ok(FilteredTable {
+                filter: None,
+                table,
+            })
+        }
+        Some(kind) => table_behind_filter(alloc, kind, options, inputs, steps),
+    }
+}
+
+/// A filter of this kind, and the table that boundaries come by.
+fn table_behind_filter<L: Ledger>(
     alloc: Global,
     kind: FilterKind,
     options: &Options,
@@ -63,11 +103,12 @@ pub(crate) fn filtered_from<L: Ledger>(
 ) -> Result<FilteredTable, Refusal>
     requires { AreShort (inputs_in inputs.now) }
     ensures exact { Serves IsFilteredBy
-        (spec.filtered_stage kind (options_in options.now) (inputs_in inputs.now)) result }
+        (spec.filtered_by (Some kind) (options_in options.now) (inputs_in inputs.now)) result }
     ensures steps { RisesUpTo (filtered_bytes (inputs_in inputs.now)) steps.old steps.new }
 {
     let props = properties_of(alloc, options, inputs, steps)?;
     let filter = filter_of(alloc, kind, &inputs.filter, steps)?;
     let table = table_behind(alloc, options, inputs, &props, steps)?;
+    let filter = Some(filter);
     Ok(FilteredTable { filter, table })
 }

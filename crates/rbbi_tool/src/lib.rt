@@ -5,6 +5,7 @@
 //! function for each.
 #![tactic(auto)]
 
+mod boundaries;
 mod command;
 mod emission;
 mod filters;
@@ -14,12 +15,12 @@ mod prepare;
 mod prepared;
 mod program;
 mod properties;
+mod replies;
 mod rules;
 mod scripts;
 mod tables;
 mod tallying;
 mod texts;
-mod told_emission;
 
 pub use in_memory::rbbi_in_memory;
 pub use laws::{files_tell_marks, outcomes_are_unique};

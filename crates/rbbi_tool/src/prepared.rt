@@ -18,15 +18,11 @@ pub(crate) enum Prepared {
 /// Lines that are made while they go out.
 #[derive(Drop)]
 pub(crate) enum Lines {
-    /// Those of all boundaries of a text by a table, with their places in a unit.
-    Boundaries(Table, PlainText, Unit),
-    /// Those of the replies to the commands of a script, over a text, by a table, in a unit.
-    Replies(Table, Pieces, Unit, Commands),
+    /// Those of the boundaries of a text by a table, in a unit or through a filter.
+    Boundaries(Table, PlainText, Unit, Option<Filter>),
+    /// Those of the replies to the commands of a script, over a text, by a table, in a unit or
+    /// through a filter.
+    Replies(Table, Pieces, Unit, Option<Filter>, Commands),
     /// Those of the counts of a text by a table, before and after the edits of a script.
     Counts(Table, Pieces, Commands),
-    /// Those of all boundaries of a text by a table that are told through a filter.
-    ToldBoundaries(Table, PlainText, Filter),
-    /// Those of the replies to the commands of a script, over a text, by the boundaries by a table
-    /// that are told through a filter.
-    ToldReplies(Table, Pieces, Filter, Commands),
 }

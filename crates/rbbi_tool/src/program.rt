@@ -84,8 +84,8 @@ fn told(alloc: Global, ended: Result<Prepared, Refusal>) -> Result<Prepared, All
 /// | 4 | the table file is too long, or no spelling of a valid table | the fault |
 /// | 5 | another file is too long, isn't UTF-8, has too many characters or a bad line | the fault |
 /// | 6 | a read of a file failed | the file |
-/// | 7 | a put or a write failed | a front of what was to be written |
-/// | 8 | memory ran out | a front of what was to be written |
+/// | 7 | a put or a write failed | a prefix of what was to be written |
+/// | 8 | memory ran out | a prefix of what was to be written |
 ///
 /// The words are looked at first, then the files are read in the order of the words; then come the
 /// property files, then a filter file, then the rule file or the table file, for `same` the second
@@ -143,7 +143,7 @@ pub fn rbbi<F: Files, K: Sink, L: Ledger>(
         ⊎ SomeWriteFailed (map string_bytes words.now.items)
         (F.failed_writes files.old) (F.failed_writes files.new) }
 
-    // After 7 and 8 nothing was taken, or a front of what was to go out, and that only where the
+    // After 7 and 8 nothing was taken, or a prefix of what was to go out, and that only where the
     // file that the outcome writes holds its bytes: it is written before anything goes out.
     ensures front { 7 ≤ result → WhereTold (F.contents files.old) (F.contents files.new)
         (TakesPart (map string_bytes words.now.items) (F.failed_reads files.old)

@@ -20,7 +20,7 @@ use rbbi_text::{Chars, EditErr, Pieces, Steps, append, append_number};
 use std::alloc::{AllocError, Global};
 use std::sync::ledger::Ledger;
 
-/// Appends the line of a value and its count, or a front of it where memory runs out.
+/// Appends the line of a value and its count, or a prefix of it where memory runs out.
 fn say_count(pair: ValueCount, made: &mut Vec<u8>) -> Result<(), AllocError>
     ensures { Appends made.old.items (count_line pair) result made.new.items }
 {
@@ -30,7 +30,7 @@ fn say_count(pair: ValueCount, made: &mut Vec<u8>) -> Result<(), AllocError>
     append(b"\n", made)
 }
 
-/// Appends the lines of values and their counts, or a front of these where memory runs out.
+/// Appends the lines of values and their counts, or a prefix of these where memory runs out.
 fn say_each(counts: &[ValueCount], made: &mut Vec<u8>) -> Result<(), AllocError>
     ensures { Appends made.old.items (flat_map count_line counts.now) result made.new.items }
 {
@@ -40,7 +40,7 @@ fn say_each(counts: &[ValueCount], made: &mut Vec<u8>) -> Result<(), AllocError>
     Ok(())
 }
 
-/// Appends the lines of a text's counts, or a front of these where memory runs out.
+/// Appends the lines of a text's counts, or a prefix of these where memory runs out.
 fn say_counts(
     alloc: Global,
     tally: &Tally<'_, Pieces>,
@@ -56,7 +56,7 @@ fn say_counts(
 }
 
 /// Performs a command on the counts if it is an edit, and appends its reply and, where it is
-/// accepted, the counts after it; of other commands, nothing. Where memory runs out, a front of
+/// accepted, the counts after it; of other commands, nothing. Where memory runs out, a prefix of
 /// that is appended.
 fn tell<L: Ledger>(
     alloc: Global,

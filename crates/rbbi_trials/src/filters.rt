@@ -1,15 +1,15 @@
 //! Random scripts through filters, each reply held against that of a plain list of the boundaries
-//! that are told, which is made anew for each command.
+//! that are reported, which is made anew for each command.
 ghost use Rattle.std.specs.Prelude.{◌≡◌, ◌<◌};
-ghost use Rattle.rbbi_filter.specs.Closures.{TellsEnds, Turns};
+ghost use Rattle.rbbi_filter.specs.Closures.{AnswersEnds, Turns};
 
 use crate::draws::Draws;
 use crate::questions::{Boundary, Question, answer_on};
 use crate::rescans::{boundaries, status_at};
 use crate::tables::table_of;
-use rbbi_filter::{Abbreviations, CharMap, Filtered, Performing, Predicate, Tailored, Tailoring};
-use rbbi_script::{Command, Commands, read_script};
-use rbbi_session::Session;
+use rbbi_filter::{Abbreviations, CharMap, Filtered, Predicate, Tailored, Tailoring};
+use rbbi_script::{Command, Commands, perform_by, read_script};
+use rbbi_session::{Session, Walk};
 use rbbi_table::Table;
 use rbbi_text::{Chars, Pieces, PlainText, Steps};
 use std::alloc::{AllocError, Global};
@@ -20,7 +20,7 @@ use std::test::Fail;
 /// What stands between a text and its boundaries.
 #[derive(Clone, Copy)]
 enum Plain<'a> {
-    /// No boundary is told behind one of these.
+    /// No boundary is reported behind one of these.
     Hiding(&'a [&'a str]),
     /// The first of each pair is read as the second.
     Turning(&'a [(char, char)]),
@@ -151,7 +151,7 @@ struct Model<'a> {
     cursor: u32,
 }
 
-/// The boundaries that are told, and the number of characters.
+/// The boundaries that are reported, and the number of characters.
 fn told<L: Ledger>(
     alloc: Global,
     model: &Model<'_>,
@@ -280,7 +280,7 @@ fn reply<L: Ledger>(
 
 /// The number of the first command, from 0, to which a session replies otherwise than the model, or
 /// after which its cursor is elsewhere.
-fn first_other<S: Performing, L: Ledger>(
+fn first_other<S: Walk, L: Ledger>(
     alloc: Global,
     session: &mut S,
     model: &mut Model<'_>,
@@ -290,8 +290,8 @@ fn first_other<S: Performing, L: Ledger>(
     for i in 0..commands.len() {
         let command = commands.get(i);
         let mut said = Vec::new(alloc);
-        session.perform(command, &mut said, steps)?;
-        session.perform(&Command::Current, &mut said, steps)?;
+        perform_by(session, command, &mut said, steps)?;
+        perform_by(session, &Command::Current, &mut said, steps)?;
         let mut wanted = reply(alloc, model, command, steps)?;
         let cursor = model.cursor;
         wanted.push_str(format!(in alloc; "{cursor}\n")?.as_str())?;
@@ -312,7 +312,7 @@ fn first_other_filtered<P: Predicate + Drop, L: Ledger>(
     commands: &Commands,
     steps: &mut Steps<L>,
 ) -> Result<Option<usize>, Fail>
-    requires { TellsEnds (P.can_tell keep) (P.tells keep) list.now }
+    requires { AnswersEnds (P.can_ask keep) (P.answers keep) list.now }
 {
     let session = Session::open(alloc, model.table, text)?;
     let mut session = Filtered::open(session, list, keep);

@@ -2,7 +2,7 @@
 ghost use Rattle.std.specs.Prelude.{◌≡◌, ◌<◌, ◌≤◌, length};
 
 use crate::tables::{WORDS, table_of};
-use rbbi_script::{Commands, play, read_script};
+use rbbi_script::{Commands, perform, read_script};
 use rbbi_session::UnitSession;
 use rbbi_table::Table;
 use rbbi_text::{PlainText, Steps, Unit};
@@ -27,7 +27,9 @@ fn played<L: Ledger>(
     let mut steps = Steps::<L>::new(rt, blank);
     let mut session = UnitSession::open(alloc, table, text, unit)?;
     let mut lines = Vec::new(alloc);
-    play(&mut session, commands, &mut lines, &mut steps)?;
+    for i in 0..commands.len() {
+        perform(&mut session, commands.get(i), &mut lines, &mut steps)?;
+    }
     Ok(lines)
 }
 

@@ -1,38 +1,36 @@
 -- What a request comes to before anything is written: all that is written of it, and what is read while it is made.
-use Rattle.std.specs.Prelude.{ℕ, List, map, Result, Ok, Err}
+use Rattle.std.specs.Prelude.{ℕ, List, map, None, Result, Ok, Err}
 use Rattle.rbbi_model.specs.Lines.{boundary_lines, all_reply_lines}
-use Rattle.rbbi_model.specs.Plays.{measured_boundaries, table_replies}
-use Rattle.rbbi_model.specs.Costs.{breaks_cost, script_cost}
-use Rattle.rbbi_model.specs.Scripts.{opened}
+use Rattle.rbbi_model.specs.Scripts.{Command, opened}
 use Rattle.rbbi_text.specs.Steps.{RisesUpTo}
+use Rattle.rbbi_session.specs.Walks.{View, kind_of, costs_in}
 use Rattle.rbbi_script.specs.Meaning.{meaning}
-use Rattle.rbbi_filter.specs.Filters.{boundaries_through}
-use Rattle.rbbi_filter.specs.FilterCosts.{breaks_through, commands_through}
+use Rattle.rbbi_script.specs.Performing.{replies_in}
 use Rattle.rbbi_command.specs.Refusals.{Outcome, printed}
 use Rattle.rbbi_command.specs.declared.refusal.Refusal.{Refusal}
-use Rattle.rbbi_tool.specs.Filters.{replies_through}
+use Rattle.rbbi_tool.specs.Filters.{kind_in}
 use Rattle.rbbi_tool.specs.declared.prepared.Lines.{Lines}
-use Rattle.rbbi_tool.specs.declared.prepared.Lines.TheVariants.{Boundaries, Replies, Counts, ToldBoundaries, ToldReplies}
+use Rattle.rbbi_tool.specs.declared.prepared.Lines.TheVariants.{Boundaries, Replies, Counts}
 use Rattle.rbbi_tool.specs.declared.prepared.Prepared.{Prepared}
 use Rattle.rbbi_tool.specs.declared.prepared.Prepared.TheVariants.{Ready, Waiting}
-use Rattle.rbbi_tool.specs.Steps.{tally_cost}
+use Rattle.rbbi_tool.specs.Steps.{list_cost, replies_cost, tally_cost}
 use Rattle.rbbi_tool.specs.inner.Tallying.{tally_lines}
+
+-- the costs of commands from a session's text and cursor on
+abbrev pub costs_of : {A Setting : Type 0} → View A Setting → A → List Command → ℕ
+costs_of view session commands = costs_in (kind_of view session) (view.state session) None commands
 
 -- the bytes of the lines
 abbrev pub bytes_of : Lines → List ℕ
-bytes_of (Boundaries table x unit) = boundary_lines (measured_boundaries table unit x)
-bytes_of (Replies table x unit commands) = all_reply_lines (table_replies table unit x (map meaning commands))
+bytes_of (Boundaries table x unit filter) = boundary_lines ((kind_in filter unit table).boundaries x)
+bytes_of (Replies table x unit filter commands) = all_reply_lines (replies_in (kind_in filter unit table) (opened x) (map meaning commands))
 bytes_of (Counts table x commands) = tally_lines table x (map meaning commands)
-bytes_of (ToldBoundaries table x filter) = boundary_lines (boundaries_through filter table x)
-bytes_of (ToldReplies table x filter commands) = all_reply_lines (replies_through filter table (opened x) (map meaning commands))
 
 -- how much of the text is read while the lines are made
 abbrev pub cost_of : Lines → ℕ
-cost_of (Boundaries table x unit) = breaks_cost table x 0
-cost_of (Replies table x unit commands) = script_cost table unit x (map meaning commands)
+cost_of (Boundaries table x unit filter) = list_cost filter table x
+cost_of (Replies table x unit filter commands) = replies_cost filter unit table x (map meaning commands)
 cost_of (Counts table x commands) = tally_cost table x (map meaning commands)
-cost_of (ToldBoundaries table x filter) = breaks_through filter table x 0
-cost_of (ToldReplies table x filter commands) = commands_through filter table (opened x) (map meaning commands)
 
 -- all that is written
 abbrev pub outcome_of : Prepared → Outcome

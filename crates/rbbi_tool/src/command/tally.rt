@@ -1,15 +1,10 @@
 //! The command `tally`.
-ghost use Rattle.std.specs.Prelude.{◌⊎◌};
-ghost use Rattle.rbbi_text.specs.Steps.{RisesUpTo};
 ghost use Rattle.rbbi_tool.specs.inner.Stages.{Meets};
 ghost use Rattle.rbbi_tool.specs.inner.Prepared.{answer_of, rest_after, ReadsByEnd};
 ghost use Rattle.rbbi_command.specs.Requests.{options_in};
 ghost use Rattle.rbbi_command.specs.Inputs.{inputs_in, AreShort};
-ghost use Rattle.rbbi_tool.specs.Texts.{text_stage};
-ghost use Rattle.rbbi_tool.specs.Scripts.{script_stage};
-ghost use Rattle.rbbi_tool.specs.Basis.{basis_stage};
 ghost use Rattle.rbbi_tool.specs.Command.Tally.{tally_stage};
-ghost use Rattle.rbbi_tool.specs.Steps.{ReadsForScript, tally_cost};
+ghost use Rattle.rbbi_tool.specs.Steps.{TallyReads};
 ghost use Rattle.rbbi_tool.specs.inner.Steps.{given_bytes};
 
 use crate::prepared::{Lines, Prepared};
@@ -32,11 +27,9 @@ pub(crate) fn tally<L: Ledger>(
     requires { AreShort (inputs_in inputs.now) }
     ensures exact { Meets (λ output. output)
         (tally_stage (options_in options.now) (inputs_in inputs.now)) (answer_of result) }
-    ensures steps { let bytes = given_bytes (inputs_in inputs.now) in
-        ReadsByEnd (rest_after result) (λ before end. RisesUpTo bytes before end
-        ⊎ ReadsForScript (basis_stage (options_in options.now) (inputs_in inputs.now))
-        (text_stage inputs.now.text) (script_stage inputs.now.script) tally_cost bytes before end)
-        steps.old steps.new }
+    ensures steps { ReadsByEnd (rest_after result)
+        (TallyReads (options_in options.now) (inputs_in inputs.now)
+        (given_bytes (inputs_in inputs.now))) steps.old steps.new }
 {
     let table = table_from(alloc, options, inputs, steps)?;
     let text = pieces_of(alloc, &inputs.text)?;

@@ -6,7 +6,7 @@ use Rattle.rbbi_tool.specs.inner.Tallying.{tally_lines}
 use Rattle.rbbi_tool.proofs.Telling.{AreTold}
 use Rattle.rbbi_tool.proofs.tallying.put_tally.Given as goal
 
--- what is told of the commands before this one is made, and a front of it was put
+-- what is told of the commands before this one is made, and a prefix of it was put
 abbrev pub invariant-loop-i : goal.invariant-loop-i
 invariant-loop-i g l = record {
   told : AreTold l.table (tally_lines l.table l.fn.text (map meaning l.commands)) (tally_cost l.table l.fn.text (map meaning l.commands)) l.tally.text

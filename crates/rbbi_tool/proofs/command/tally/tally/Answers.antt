@@ -1,11 +1,16 @@
-use Rattle.std.proofs.Common.{inl, inr, ⊎_elim, map, arith}
+use Rattle.std.proofs.Common.{inl, inr, ⊎_elim, map, refl, arith}
+use Rattle.std.specs.Prelude.{None}
 use Rattle.std.proofs.lemmas.Result.{err_from_is_err_and}
 use Rattle.rbbi_script.specs.Meaning.{meaning}
 use Rattle.rbbi_tool.proofs.Bases.{gives_them}
 use Rattle.rbbi_tool.specs.Steps.{tally_cost}
 use Rattle.rbbi_tool.proofs.Tallied.{tally_told}
-use Rattle.rbbi_tool.proofs.Counted.{rises_further, rises_by, rises_twice, replies_read}
+use Rattle.rbbi_tool.proofs.Counted.{rises_further, rises_by, rises_twice, reads_for}
+use Rattle.rbbi_command.specs.Requests.{options_in}
 use Rattle.rbbi_command.specs.Inputs.{inputs_in}
+use Rattle.rbbi_tool.specs.Texts.{text_stage}
+use Rattle.rbbi_tool.specs.Scripts.{script_stage}
+use Rattle.rbbi_tool.specs.Filters.{behind_filter}
 use Rattle.rbbi_tool.specs.inner.Steps.{given_bytes}
 use Rattle.rbbi_tool.proofs.command.tally.tally.Goals as goal
 
@@ -65,8 +70,11 @@ returns-in_err-commands-clause-steps g c =
 pub returns-clause-steps : goal.returns-clause-steps
 returns-clause-steps g c =
     let basis = c.in_ok-table.ensures.table in
+    let inputs = inputs_in c.args.inputs.now in
     λ end more.
-    replies_read _ _ _ _ c.commands_of.new.steps end basis.0 _ _ basis.1 basis.2 c.in_ok-text.ensures.exact
-    (rises_further _ (given_bytes (inputs_in c.args.inputs.now)) _ _
-    (rises_by _ _ _ c.table_from.new.steps _ c.table_from.ensures.steps c.commands_of.ensures.steps) (omega arith)) _ tally_cost _
-    c.in_ok-commands.ensures.exact more
+    inr
+    (reads_for (behind_filter (options_in c.args.options.now) inputs None) (text_stage inputs.text) (script_stage inputs.script) (λ filter. tally_cost)
+    (given_bytes inputs) c.args.steps.now c.commands_of.new.steps end (record { filter = None; basis = basis.0 }) c.in_ok-table.table c.in_ok-text.text
+    (map meaning c.in_ok-commands.commands) (basis.0, basis.1, refl) basis.2 c.in_ok-text.ensures.exact c.in_ok-commands.ensures.exact
+    (rises_further _ (given_bytes inputs) _ _
+    (rises_by _ _ _ c.table_from.new.steps _ c.table_from.ensures.steps c.commands_of.ensures.steps) (omega arith)) more)

@@ -1,0 +1,12 @@
+use Rattle.std.proofs.Common.{subst}
+use Rattle.rbbi_model.specs.Cover.{IsPlaceOf}
+use Rattle.rbbi_session.proofs.Reaching.{is_a_place}
+use Rattle.rbbi_filter.specs.Pairs.{turned}
+use Rattle.rbbi_filter.specs.FilterSessions.{boundaries_of}
+use Rattle.rbbi_filter.proofs.tailored.TurnedMoves.current.Goals as goal
+
+pub returns-clause-boundary : goal.returns-clause-boundary
+returns-clause-boundary g c =
+    let x = turned c.self.inside.pairs.now (g.T.Chars.characters c.self.inside.text) in
+    subst (λ s. IsPlaceOf (boundaries_of s) c.self.inside.at) c.self.view_is
+    (is_a_place c.self.inside.table.now x c.self.inside.at c.self.inside.status c.self.invariant.0.reached)
