@@ -6,7 +6,7 @@ use Rattle.std.proofs.lemmas.Bool.{cases_Bool, cond-true, cond-false, and_parts,
 use Rattle.std.proofs.lemmas.List.{get_or-drop}
 use Rattle.ucd_table.proofs.TrieCheck.{all_below, all_below-at}
 use Rattle.ucd_table.proofs.Facts.{same_from_beq}
-use Rattle.rbbi_model.specs.Tables.{Table, accept_of, step}
+use Rattle.rbbi_model.specs.Tables.{Table, accept_of, list_of, statuses_of, step}
 use Rattle.rbbi_annexes.proofs.Monitors.{Monitor}
 use Rattle.rbbi_annexes.proofs.Agreement.{Agree}
 
@@ -17,7 +17,7 @@ unfoldable pub values : {X : Type 0} → (ℕ → X) → ℕ → ℕ → List X
 values f k zero = []
 values f k (suc n) = f k ∷ values f (k + 1) n
 
-get_or-values : {X : Type 0} (f : ℕ → X) (k n i : ℕ) (d : X) → i < n → get_or (values f k n) i d ≡ f (k + i)
+pub get_or-values : {X : Type 0} (f : ℕ → X) (k n i : ℕ) (d : X) → i < n → get_or (values f k n) i d ≡ f (k + i)
 unfolding values
 get_or-values f k zero i d short = absurd (omega (arith, short))
 get_or-values f k (suc n) zero d short = ap f (omega arith)
@@ -107,25 +107,41 @@ some_open-at [] p is = absurd (false≢true (ap is_open is))
 some_open-at (mark ∷ marks) zero is = ap (λ m. is_open m || some_open marks) is
 some_open-at (mark ∷ marks) (suc p) is = or_right (is_open mark) (some_open marks) (some_open-at marks p is)
 
+-- ---- statuses
+
+-- the list has this number alone
+unfoldable pub is_only : ℕ → List ℕ → Bool
+is_only n (m ∷ []) = eqb m n
+is_only n _ = false
+
+pub is_only-true : (n : ℕ) (ms : List ℕ) → is_only n ms ≡ true → ms ≡ n ∷ []
+unfolding is_only
+is_only-true n [] is = absurd (false≢true is)
+is_only-true n (m ∷ []) is = ap (λ k. k ∷ []) (eqb-true m n is)
+is_only-true n (m ∷ k ∷ ms) is = absurd (false≢true is)
+
 -- ---- the test
 
--- a row that a search reaches, with the state of the monitor there
+-- a row that a search reaches, with the state of the monitor there and the label of what the search has read
 pub record Entry (S : Type 0) : Type 0 where
   pub row : ℕ
+  pub label : ℕ
   pub state : S
   pub marks : Marks
 
 module _ {S : Type 0} (same : S → S → Bool) where
   unfoldable pub same_entry : Entry S → Entry S → Bool
-  same_entry a b = eqb a.row b.row && (same_marks a.marks b.marks && same a.state b.state)
+  same_entry a b = eqb a.row b.row && (eqb a.label b.label && (same_marks a.marks b.marks && same a.state b.state))
 
   same_entry-true : ((a b : S) → same a b ≡ true → a ≡ b) → (a b : Entry S) → same_entry a b ≡ true → a ≡ b
   unfolding same_entry
   same_entry-true equal a b is =
-      let parts = and_parts (eqb a.row b.row) (same_marks a.marks b.marks && same a.state b.state) is in
-      let rest = and_parts (same_marks a.marks b.marks) (same a.state b.state) parts.1 in
+      let parts = and_parts (eqb a.row b.row) (eqb a.label b.label && (same_marks a.marks b.marks && same a.state b.state)) is in
+      let others = and_parts (eqb a.label b.label) (same_marks a.marks b.marks && same a.state b.state) parts.1 in
+      let rest = and_parts (same_marks a.marks b.marks) (same a.state b.state) others.1 in
       λ i. record {
         row = eqb-true a.row b.row parts.0 i;
+        label = eqb-true a.label b.label others.0 i;
         state = equal a.state b.state rest.1 i;
         marks = same_marks-true a.marks b.marks rest.0 i;
       }
@@ -166,7 +182,7 @@ module _ {S : Type 0} (same : S → S → Bool) where
 
     abbrev pub after_category : Entry S → Bool → List ℕ → ℕ → Entry S
     after_category entry accepts cells k =
-        record { row = get_or cells k 0; state = monitor.next entry.state k; marks = marks_after entry accepts k }
+        record { row = get_or cells k 0; label = monitor.label entry.label k; state = monitor.next entry.state k; marks = marks_after entry accepts k }
 
     -- the entries that may follow one
     unfoldable pub after_entry : Entry S → List (Entry S)
@@ -180,7 +196,8 @@ module _ {S : Type 0} (same : S → S → Bool) where
     first_marks state k = values (λ p. cond (monitor.breaks state k p) (Some false) None) 0 kinds
 
     abbrev pub first_entry : S → List ℕ → ℕ → Entry S
-    first_entry state cells k = record { row = get_or cells k 0; state = monitor.next state k; marks = first_marks state k }
+    first_entry state cells k =
+        record { row = get_or cells k 0; label = monitor.label 0 k; state = monitor.next state k; marks = first_marks state k }
 
     -- the first entries of searches that begin in a state
     unfoldable pub entries_from : S → List (Entry S)
@@ -218,6 +235,10 @@ module _ {S : Type 0} (same : S → S → Bool) where
       end_passes accepts None = true
       end_passes accepts (Some settled) = beq accepts (not settled)
 
+      -- the status at the row is the one by the label
+      unfoldable pub is_named : Entry S → Bool
+      is_named entry = is_only (monitor.status entry.label) (statuses_of table (list_of table entry.row))
+
       unfoldable pub goes_at : Entry S → Bool → List ℕ → ℕ → Bool
       goes_at entry accepts cells k =
           let found = member same_entry (after_category entry accepts cells k) entries in
@@ -227,9 +248,10 @@ module _ {S : Type 0} (same : S → S → Bool) where
       entry_passes entry =
           let cells = cells_of entry.row in
           let accepts = eqb (accept_of table entry.row) 1 in
+          let named = is_named entry in
           end_passes accepts (get_or entry.marks monitor.nothing None)
-          && all_used (λ k. all_below (λ p. permitted accepts entry.state k p (get_or entry.marks
-          (monitor.ahead k p) None)) kinds && goes_at entry accepts cells k)
+          && (cond accepts named true && all_used (λ k. all_below (λ p. permitted accepts entry.state k p (get_or entry.marks
+          (monitor.ahead k p) None)) kinds && goes_at entry accepts cells k))
 
       unfoldable pub passes : Bool
       passes = member same monitor.start states && (numbers_pass && (each state_passes states && each entry_passes entries))
@@ -238,10 +260,11 @@ module _ {S : Type 0} (same : S → S → Bool) where
       abbrev pub IsState : S → Type 0
       IsState m = member same m states ≡ true
 
-      -- a search reaches the row in this state, with this mark for p
-      abbrev pub IsReached : ℕ → S → ℕ → Bool → Type 0
-      IsReached row m p settled =
-          (marks : Marks) × (member same_entry (record { row = row; state = m; marks = marks }) entries ≡ true) × (get_or marks p None ≡ Some settled)
+      -- a search reaches the row in this state, with this mark for p, and with the label t
+      abbrev pub IsReached : ℕ → S → ℕ → ℕ → Bool → Type 0
+      IsReached row m p t settled =
+          (marks : Marks) × (member same_entry (record { row = row; label = t; state = m; marks = marks }) entries ≡ true)
+          × (get_or marks p None ≡ Some settled)
 
       module _ (equal : (a b : S) → same a b ≡ true → a ≡ b) (ok : passes ≡ true) where
         parts : (member same monitor.start states ≡ true) × (numbers_pass ≡ true) × (each state_passes states ≡ true) × (each entry_passes entries ≡ true)
@@ -281,7 +304,7 @@ module _ {S : Type 0} (same : S → S → Bool) where
             (all_used-at test (each-member same equal state_passes m states parts.2 is) k of)
 
         begins : (m : S) (k p : ℕ) → IsUsed k → p < kinds → IsState m → monitor.breaks m k p ≡ true →
-            (eqb (step table 1 k) 0 ≡ false) × IsReached (step table 1 k) (monitor.next m k) p false
+            (eqb (step table 1 k) 0 ≡ false) × IsReached (step table 1 k) (monitor.next m k) p (monitor.label 0 k) false
         unfolding begins_at
         begins m k p of few is breaks =
             let cells : List ℕ = cells_of 1 in
@@ -292,7 +315,7 @@ module _ {S : Type 0} (same : S → S → Bool) where
             let both = and_parts (not (eqb (get_or cells k 0) 0)) (member same_entry (first_entry m cells k) entries)
             (sym (cond-true (some_open (first_marks m k)) found true (some_open-at (first_marks m k) p mark)) ∙ (state_at m k of is).1) in (
               ap (λ c. eqb c 0) (sym (cell_is 1 k)) ∙ not-true (eqb (get_or cells k 0) 0) both.0,
-              subst (λ r. IsReached r (monitor.next m k) p false) (cell_is 1 k) (first_marks m k, both.1, mark),
+              subst (λ r. IsReached r (monitor.next m k) p (monitor.label 0 k) false) (cell_is 1 k) (first_marks m k, both.1, mark),
             )
 
         -- what was tested of an entry
@@ -301,6 +324,7 @@ module _ {S : Type 0} (same : S → S → Bool) where
 
         entry_at : (entry : Entry S) → member same_entry entry entries ≡ true →
             (end_passes (accepts_at entry.row) (get_or entry.marks monitor.nothing None) ≡ true)
+            × (cond (accepts_at entry.row) (is_named entry) true ≡ true)
             × ((k : ℕ) → IsUsed k →
             ((p : ℕ) → p < kinds → permitted (accepts_at entry.row) entry.state k p (get_or entry.marks (monitor.ahead k p) None) ≡ true)
             × (goes_at entry (accepts_at entry.row) (cells_of entry.row) k ≡ true))
@@ -309,66 +333,77 @@ module _ {S : Type 0} (same : S → S → Bool) where
             let permits : ℕ → ℕ → Bool = λ k p. permitted (accepts_at entry.row) entry.state k p (get_or entry.marks (monitor.ahead k p) None) in
             let goes : ℕ → Bool = goes_at entry (accepts_at entry.row) (cells_of entry.row) in
             let all : Bool = all_used (λ k. all_below (permits k) kinds && goes k) in
-            let tested = and_parts (end_passes (accepts_at entry.row) (get_or entry.marks monitor.nothing None)) all
-            (each-member same_entry (same_entry-true equal) entry_passes entry entries parts.3 is) in (
+            let tested = and_parts (end_passes (accepts_at entry.row) (get_or entry.marks monitor.nothing None))
+            (cond (accepts_at entry.row) (is_named entry) true && all)
+            (each-member same_entry (same_entry-true equal) entry_passes entry entries parts.3 is) in
+            let rest = and_parts (cond (accepts_at entry.row) (is_named entry) true) all tested.1 in (
               tested.0,
+              rest.0,
               λ k of.
-                  let both = and_parts (all_below (permits k) kinds) (goes k) (all_used-at (λ j. all_below (permits j) kinds && goes j) tested.1 k of) in
+                  let both = and_parts (all_below (permits k) kinds) (goes k) (all_used-at (λ j. all_below (permits j) kinds && goes j) rest.1 k of) in
                   (λ p few. all_below-at (permits k) kinds p both.0 few, both.1),
             )
 
-        ends : (row : ℕ) (m : S) (settled : Bool) → IsReached row m monitor.nothing settled → eqb (accept_of table row) 1 ≡ not settled
+        names : (row : ℕ) (m : S) (p t : ℕ) (settled : Bool) → IsReached row m p t settled → eqb (accept_of table row) 1 ≡ true →
+            statuses_of table (list_of table row) ≡ monitor.status t ∷ []
+        unfolding is_named
+        names row m p t settled is accepts =
+            let entry : Entry S = record { row = row; label = t; state = m; marks = is.0 } in
+            is_only-true (monitor.status t) (statuses_of table (list_of table row))
+            (sym (cond-true (accepts_at row) (is_named entry) true accepts) ∙ (entry_at entry is.1).1)
+
+        ends : (row : ℕ) (m : S) (t : ℕ) (settled : Bool) → IsReached row m monitor.nothing t settled → eqb (accept_of table row) 1 ≡ not settled
         unfolding end_passes
-        ends row m settled is =
-            let entry : Entry S = record { row = row; state = m; marks = is.0 } in
+        ends row m t settled is =
+            let entry : Entry S = record { row = row; label = t; state = m; marks = is.0 } in
             same_from_beq (accepts_at row) (not settled) (ap (end_passes (accepts_at row)) (sym is.2) ∙ (entry_at entry is.1).0)
 
-        allows : (row : ℕ) (m : S) (k p : ℕ) (settled : Bool) → IsUsed k → p < kinds → IsReached row m (monitor.ahead k p) settled →
+        allows : (row : ℕ) (m : S) (k p t : ℕ) (settled : Bool) → IsUsed k → p < kinds → IsReached row m (monitor.ahead k p) t settled →
             cond (eqb (accept_of table row) 1) (not settled) (settled || not (monitor.breaks m k p)) ≡ true
         unfolding permitted
-        allows row m k p settled of few is =
-            let entry : Entry S = record { row = row; state = m; marks = is.0 } in
-            ap (permitted (accepts_at row) m k p) (sym is.2) ∙ ((entry_at entry is.1).1 k of).0 p few
+        allows row m k p t settled of few is =
+            let entry : Entry S = record { row = row; label = t; state = m; marks = is.0 } in
+            ap (permitted (accepts_at row) m k p) (sym is.2) ∙ ((entry_at entry is.1).2 k of).0 p few
 
-        mark_after : (row : ℕ) (m : S) (k p : ℕ) (settled : Bool) → p < kinds → (is : IsReached row m (monitor.ahead k p) settled) →
-            get_or (marks_after (record { row = row; state = m; marks = is.0 }) (accepts_at row) k) p None
+        mark_after : (row : ℕ) (m : S) (k p t : ℕ) (settled : Bool) → p < kinds → (is : IsReached row m (monitor.ahead k p) t settled) →
+            get_or (marks_after (record { row = row; label = t; state = m; marks = is.0 }) (accepts_at row) k) p None
             ≡ Some (cond (accepts_at row) (monitor.breaks m k p) settled)
         unfolding marked
-        mark_after row m k p settled few is =
+        mark_after row m k p t settled few is =
             value_at (λ q. marked (accepts_at row) m k q (get_or is.0 (monitor.ahead k q) None)) p None few
             ∙ ap (marked (accepts_at row) m k p) is.2
 
-        dies : (row : ℕ) (m : S) (k p : ℕ) (settled : Bool) → IsUsed k → p < kinds → IsReached row m (monitor.ahead k p) settled →
+        dies : (row : ℕ) (m : S) (k p t : ℕ) (settled : Bool) → IsUsed k → p < kinds → IsReached row m (monitor.ahead k p) t settled →
             eqb (step table row k) 0 ≡ true → cond (eqb (accept_of table row) 1) (monitor.breaks m k p) settled ≡ true
         unfolding goes_at
-        dies row m k p settled of few is none =
-            let entry : Entry S = record { row = row; state = m; marks = is.0 } in
+        dies row m k p t settled of few is none =
+            let entry : Entry S = record { row = row; label = t; state = m; marks = is.0 } in
             let cells : List ℕ = cells_of row in
             let marks : Marks = marks_after entry (accepts_at row) k in
             let mark : Bool = cond (accepts_at row) (monitor.breaks m k p) settled in
             let found : Bool = member same_entry (after_category entry (accepts_at row) cells k) entries in
             let shut = not-true (some_open marks)
             (sym (cond-true (eqb (get_or cells k 0) 0) (not (some_open marks)) found (ap (λ c. eqb c 0) (cell_is row k) ∙ none))
-            ∙ ((entry_at entry is.1).1 k of).1) in
+            ∙ ((entry_at entry is.1).2 k of).1) in
             ⊎_elim
             (λ holds. holds)
-            (λ fails. absurd (false≢true (sym shut ∙ some_open-at marks p (mark_after row m k p settled few is ∙ ap Some fails))))
+            (λ fails. absurd (false≢true (sym shut ∙ some_open-at marks p (mark_after row m k p t settled few is ∙ ap Some fails))))
             (cases_Bool mark)
 
-        goes : (row : ℕ) (m : S) (k p : ℕ) (settled : Bool) → IsUsed k → p < kinds → IsReached row m (monitor.ahead k p) settled →
+        goes : (row : ℕ) (m : S) (k p t : ℕ) (settled : Bool) → IsUsed k → p < kinds → IsReached row m (monitor.ahead k p) t settled →
             eqb (step table row k) 0 ≡ false →
-            IsReached (step table row k) (monitor.next m k) p (cond (eqb (accept_of table row) 1) (monitor.breaks m k p) settled)
+            IsReached (step table row k) (monitor.next m k) p (monitor.label t k) (cond (eqb (accept_of table row) 1) (monitor.breaks m k p) settled)
         unfolding goes_at
-        goes row m k p settled of few is some =
-            let entry : Entry S = record { row = row; state = m; marks = is.0 } in
+        goes row m k p t settled of few is some =
+            let entry : Entry S = record { row = row; label = t; state = m; marks = is.0 } in
             let cells : List ℕ = cells_of row in
             let marks : Marks = marks_after entry (accepts_at row) k in
             let found : Bool = member same_entry (after_category entry (accepts_at row) cells k) entries in
-            subst (λ r. IsReached r (monitor.next m k) p (cond (accepts_at row) (monitor.breaks m k p) settled)) (cell_is row k) (
+            subst (λ r. IsReached r (monitor.next m k) p (monitor.label t k) (cond (accepts_at row) (monitor.breaks m k p) settled)) (cell_is row k) (
               marks,
               sym (cond-false (eqb (get_or cells k 0) 0) (not (some_open marks)) found (ap (λ c. eqb c 0) (cell_is row k) ∙ some))
-                  ∙ ((entry_at entry is.1).1 k of).1,
-              mark_after row m k p settled few is,
+                  ∙ ((entry_at entry is.1).2 k of).1,
+              mark_after row m k p t settled few is,
             )
 
         pub agrees : Agree table monitor kinds IsUsed IsState IsReached
@@ -379,6 +414,7 @@ module _ {S : Type 0} (same : S → S → Bool) where
               nothing = nothing_within;
               ahead = ahead_within;
               begins = begins;
+              names = names;
               ends = ends;
               allows = allows;
               dies = dies;

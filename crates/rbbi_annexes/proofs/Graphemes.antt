@@ -18,6 +18,8 @@ use Rattle.ucd_emoji.proofs.BinaryLemmas.{is_extended_pictographic_stepped}
 use Rattle.unicode_segmentation.specs.Grapheme.{break_by_pair, ends_in_linker, is_consonant, is_extend, is_zwj, is_regional, ends_in_pictograph}
 use Rattle.unicode_segmentation.specs.Grapheme.{ends_in_half_flag, is_grapheme_break}
 use Rattle.rbbi_model.specs.Words.{IsCharacter, IsText}
+use Rattle.rbbi_annexes.specs.Statuses.{grapheme_status}
+use Rattle.rbbi_annexes.proofs.Ends.{graphemes_at_ends}
 use Rattle.rbbi_annexes.proofs.Monitors.{Monitor, seen, Tells}
 
 -- what the rules read of a character
@@ -131,6 +133,8 @@ grapheme_monitor classes =
       nothing = 0;
       ahead = λ k p. 0;
       breaks = λ m k p. breaks_by m.last m (get_or classes k other_class);
+      label = λ t k. 0;
+      status = λ t. 0;
     }
 
 abbrev pub state_of : List ℕ → Before
@@ -184,22 +188,13 @@ module _ (classes : List Class) (category : ℕ → ℕ) (fits : (c : ℕ) → I
   breaks_is [] c behind = refl
   breaks_is (last ∷ before) c behind = refl
 
-  end_breaks : (before : List ℕ) → is_grapheme_break true before [] ≡ true
-  unfolding is_grapheme_break
-  end_breaks [] = refl
-  end_breaks (last ∷ before) = refl
-
-  start_breaks : (behind : List ℕ) → is_grapheme_break true [] behind ≡ true
-  unfolding is_grapheme_break
-  start_breaks behind = refl
-
-  pub grapheme_tells : Tells (grapheme_monitor classes) category (is_grapheme_break true)
+  pub grapheme_tells : Tells (grapheme_monitor classes) category (is_grapheme_break true) grapheme_status
   grapheme_tells =
       record {
-        start = start_breaks;
-        end = end_breaks;
+        ends = graphemes_at_ends;
         inside = λ before c behind before_are is behind_are.
             breaks_is before c behind ∙ sym (ap₂ (λ m class. breaks_by m.last m class) (seen_state before before_are) (fits c is));
+        status_is = λ cluster are. refl;
       }
 
 -- `unfolding grapheme_tests` lets `refl` compute them for the table of graphemes

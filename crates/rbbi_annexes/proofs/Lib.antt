@@ -1,5 +1,7 @@
+pub mod Ends
 pub mod Monitors
 pub mod Scans
+pub mod Placed
 pub mod Agreement
 pub mod Checker
 pub mod Categories
@@ -8,5 +10,6 @@ pub mod Checked
 pub mod Graphemes
 pub mod Words
 pub mod Sentences
+pub mod Valid
 pub mod Computing
 pub mod Pieces

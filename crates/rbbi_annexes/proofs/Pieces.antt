@@ -1,11 +1,12 @@
 -- The places at which a rule breaks are the ends of the pieces into which the kit cuts the text.
-use Rattle.std.proofs.Common.{◌≡◌, ℕ, ◌+◌, true, cond, List, [], ◌∷◌, length, append-nil, refl, ap, sym, ◌∙◌, ⊎_elim, arith}
+use Rattle.std.proofs.Common.{◌≡◌, ℕ, ◌+◌, true, cond, List, [], ◌∷◌, length, append-nil, ap, sym, ◌∙◌, ⊎_elim, arith}
 use Rattle.std.proofs.lemmas.Bool.{cases_Bool, cond-true, cond-false}
 use Rattle.unicode_segmentation.specs.Segments.{Rule, prepend, cut}
 use Rattle.unicode_segmentation.specs.Grapheme.{is_grapheme_break}
 use Rattle.unicode_segmentation.specs.Sentence.{is_sentence_break}
 use Rattle.unicode_segmentation.specs.Word.{is_word_break}
 use Rattle.rbbi_annexes.specs.Breaks.{breaks_from, ends_from, BreaksAreEnds}
+use Rattle.rbbi_annexes.proofs.Ends.{BreaksAtEnds, graphemes_at_ends, words_at_ends, sentences_at_ends}
 
 -- a piece that grows by a character at its start ends where it did
 ends_prepend : (at c : ℕ) (pieces : List (List ℕ)) (e : ℕ) (further : List ℕ) → ends_from (at + 1) pieces ≡ e ∷ further →
@@ -14,10 +15,10 @@ ends_prepend at c [] e further is = absurd (omega (arith, ap length is))
 ends_prepend at c (piece ∷ pieces) e further is =
     ap (λ n. n ∷ ends_from n pieces) (let same : at + length (c ∷ piece) ≡ at + 1 + length piece = omega arith in same) ∙ is
 
-module _ (rule : Rule) (end : (before : List ℕ) → rule before [] ≡ true) where
+module _ (rule : Rule) (ends : BreaksAtEnds rule) where
   -- the breaks from a place on are one at least
   breaks_some : (behind before : List ℕ) (at : ℕ) → (e : ℕ) × (further : List ℕ) × (breaks_from rule before behind at ≡ e ∷ further)
-  breaks_some [] before at = (at, [], cond-true (rule before []) (at ∷ []) [] (end before))
+  breaks_some [] before at = (at, [], cond-true (rule before []) (at ∷ []) [] (ends.end before))
   breaks_some (c ∷ behind) before at =
       let further : List ℕ = breaks_from rule (c ∷ before) behind (at + 1) in
       let rest = breaks_some behind (c ∷ before) (at + 1) in
@@ -29,8 +30,8 @@ module _ (rule : Rule) (end : (before : List ℕ) → rule before [] ≡ true) w
   ends_are : (behind before : List ℕ) (c at : ℕ) → ends_from at (cut rule before (c ∷ behind) []) ≡ breaks_from rule (c ∷ before) behind (at + 1)
   unfolding cut
   ends_are [] before c at =
-      ap (ends_from at) (cond-true (rule (c ∷ before) []) ((c ∷ []) ∷ []) ((c ∷ []) ∷ []) (end (c ∷ before)))
-      ∙ sym (cond-true (rule (c ∷ before) []) ((at + 1) ∷ []) [] (end (c ∷ before)))
+      ap (ends_from at) (cond-true (rule (c ∷ before) []) ((c ∷ []) ∷ []) ((c ∷ []) ∷ []) (ends.end (c ∷ before)))
+      ∙ sym (cond-true (rule (c ∷ before) []) ((at + 1) ∷ []) [] (ends.end (c ∷ before)))
   ends_are (d ∷ behind) before c at =
       let rest : List (List ℕ) = cut rule (c ∷ before) (d ∷ behind) [] in
       let further : List ℕ = breaks_from rule (d ∷ c ∷ before) behind (at + 1 + 1) in
@@ -48,46 +49,18 @@ module _ (rule : Rule) (end : (before : List ℕ) → rule before [] ≡ true) w
       ∙ sym (cond-false (rule (c ∷ before) (d ∷ behind)) ((at + 1) ∷ further) further joins))
       (cases_Bool (rule (c ∷ before) (d ∷ behind)))
 
-  pub breaks_are_ends : ((behind : List ℕ) → rule [] behind ≡ true) → BreaksAreEnds rule
+  pub breaks_are_ends : BreaksAreEnds rule
   unfolding cut
-  breaks_are_ends start [] = cond-true (rule [] []) (0 ∷ []) [] (end [])
-  breaks_are_ends start (c ∷ behind) =
+  breaks_are_ends [] = cond-true (rule [] []) (0 ∷ []) [] (ends.end [])
+  breaks_are_ends (c ∷ behind) =
       let further : List ℕ = breaks_from rule (c ∷ []) behind 1 in
-      cond-true (rule [] (c ∷ behind)) (0 ∷ further) further (start (c ∷ behind)) ∙ ap (λ es. 0 ∷ es) (sym (ends_are behind [] c 0))
-
--- the rules of the annex break at each end of a text
-grapheme_end : (before : List ℕ) → is_grapheme_break true before [] ≡ true
-unfolding is_grapheme_break
-grapheme_end [] = refl
-grapheme_end (last ∷ before) = refl
-
-grapheme_start : (behind : List ℕ) → is_grapheme_break true [] behind ≡ true
-unfolding is_grapheme_break
-grapheme_start behind = refl
+      cond-true (rule [] (c ∷ behind)) (0 ∷ further) further (ends.start (c ∷ behind)) ∙ ap (λ es. 0 ∷ es) (sym (ends_are behind [] c 0))
 
 pub graphemes_are_ends : BreaksAreEnds (is_grapheme_break true)
-graphemes_are_ends = breaks_are_ends (is_grapheme_break true) grapheme_end grapheme_start
-
-word_end : (before : List ℕ) → is_word_break before [] ≡ true
-unfolding is_word_break
-word_end [] = refl
-word_end (last ∷ before) = refl
-
-word_start : (behind : List ℕ) → is_word_break [] behind ≡ true
-unfolding is_word_break
-word_start behind = refl
+graphemes_are_ends = breaks_are_ends (is_grapheme_break true) graphemes_at_ends
 
 pub words_are_ends : BreaksAreEnds is_word_break
-words_are_ends = breaks_are_ends is_word_break word_end word_start
-
-sentence_end : (before : List ℕ) → is_sentence_break before [] ≡ true
-unfolding is_sentence_break
-sentence_end [] = refl
-sentence_end (last ∷ before) = refl
-
-sentence_start : (behind : List ℕ) → is_sentence_break [] behind ≡ true
-unfolding is_sentence_break
-sentence_start behind = refl
+words_are_ends = breaks_are_ends is_word_break words_at_ends
 
 pub sentences_are_ends : BreaksAreEnds is_sentence_break
-sentences_are_ends = breaks_are_ends is_sentence_break sentence_end sentence_start
+sentences_are_ends = breaks_are_ends is_sentence_break sentences_at_ends

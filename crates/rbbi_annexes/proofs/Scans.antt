@@ -1,33 +1,37 @@
 -- A search in a table without look-ahead rules, as one pass over the characters behind its start.
 use Rattle.std.proofs.Common.{◌≡◌, ℕ, zero, suc, ◌+◌, ◌-◌, ◌<◌, ◌≤◌, Bool, true, false, cond, ◌&&◌, ltb, eqb, List, [], ◌∷◌, Option, Some, None, length}
 use Rattle.std.proofs.Common.{drop, take, get_or, map, sym, refl, ap, ap₂, ◌∙◌, ⊎_elim, arith, add-one, le_refl}
-use Rattle.std.specs.Prelude.{unwrap_or}
 use Rattle.std.proofs.lemmas.Bool.{cases_Bool, cond-true, cond-false, and_left, lt-ltb, le-ltb, eq-eqb, eqb-true, or_left, or_from}
 use Rattle.std.proofs.lemmas.List.{drop_more, length-drop}
 use Rattle.rbbi_model.specs.Places.{least_from, greatest_below}
-use Rattle.rbbi_model.specs.Tables.{Table, accept_of, list_of, category_of, step, row_along, completes, stops}
+use Rattle.rbbi_model.specs.Boundaries.{Boundary}
+use Rattle.rbbi_model.specs.Tables.{Table, accept_of, list_of, statuses_of, category_of, step, row_along, completes, stops}
 use Rattle.rbbi_model.specs.Searches.{Found, row_at, search_end, longest_place, found_longest, cut_place, next_boundary}
 use Rattle.rbbi_model.proofs.FoundCases.{row_goes_on}
 
--- the place q if a rule ends at the row, or else the last place at which one did
-abbrev pub ended : Table → ℕ → ℕ → ℕ → ℕ
-ended table row last q = cond (eqb (accept_of table row) 1) q last
+-- the boundary where a search ends at the place q with this row
+abbrev pub ending : Table → ℕ → ℕ → Boundary
+ending table row q = record { at = q; statuses = statuses_of table (list_of table row) }
 
--- The last place at which a rule ends. The search reached q at the row, the last place before was `last`, and these characters
--- stand behind q.
-abbrev pub scan : Table → ℕ → ℕ → ℕ → List ℕ → ℕ
+-- that if a rule ends at the row, or else the last one before
+abbrev pub ended : Table → ℕ → Boundary → ℕ → Boundary
+ended table row last q = cond (eqb (accept_of table row) 1) (ending table row q) last
+
+-- The boundary at the last place at which a rule ends. The search reached q at the row, the last such boundary before was `last`, and
+-- these characters stand behind q.
+abbrev pub scan : Table → ℕ → Boundary → ℕ → List ℕ → Boundary
 scan table row last q [] = ended table row last q
 scan table row last q (c ∷ behind) =
     let next : ℕ = step table row (category_of table.ranges c) in
     cond (eqb next 0) (ended table row last q) (scan table next (ended table row last q) (q + 1) behind)
 
-unwrap_cond : (b : Bool) (q d : ℕ) (place : Option ℕ) → unwrap_or (cond b (Some q) place) d ≡ cond b q (unwrap_or place d)
-unwrap_cond true q d place = refl
-unwrap_cond false q d place = refl
+-- the boundary that a search finds
+abbrev pub boundary_of : Table → Found → Boundary
+boundary_of table found = record { at = found.at; statuses = statuses_of table found.list }
 
-longest_at : (table : Table) (x : List ℕ) (s : ℕ) (place : Option ℕ) → (found_longest table x s place).at ≡ unwrap_or place (s + 1)
-longest_at table x s None = refl
-longest_at table x s (Some q) = refl
+-- the boundary behind one character, where no rule ends
+abbrev pub single : Table → ℕ → Boundary
+single table s = boundary_of table (record { at = s + 1; list = 0 })
 
 least_here : (test : ℕ → Bool) (low count : ℕ) → test low ≡ true → least_from test low count ≡ low
 least_here test low zero holds = refl
@@ -49,12 +53,21 @@ module _ (table : Table) (plain : (row : ℕ) → completes table row ≡ false)
   test : ℕ → Bool
   test q = ltb s q && eqb (accept_of table (row_at table x s q)) 1
 
-  top : (q d : ℕ) → s < q → unwrap_or (greatest_below test (q + 1)) d ≡ ended table (row q) (unwrap_or (greatest_below test q) d) q
+  -- the boundary by the longest match, if there is one
+  longest : Option ℕ → Boundary
+  longest place = boundary_of table (found_longest table x s place)
+
+  longest_cond : (b : Bool) (q : ℕ) (place : Option ℕ) → longest (cond b (Some q) place) ≡ cond b (ending table (row q) q) (longest place)
+  unfolding longest row
+  longest_cond true q place = refl
+  longest_cond false q place = refl
+
+  top : (q : ℕ) → s < q → longest (greatest_below test (q + 1)) ≡ ended table (row q) (longest (greatest_below test q)) q
   unfolding row test
-  top q d past =
-      ap (λ n. unwrap_or (greatest_below test n) d) (add-one q)
-      ∙ ap (λ b. unwrap_or (cond (b && eqb (accept_of table (row_at table x s q)) 1) (Some q) (greatest_below test q)) d) (lt-ltb s q past)
-      ∙ unwrap_cond (eqb (accept_of table (row_at table x s q)) 1) q d (greatest_below test q)
+  top q past =
+      ap (λ n. longest (greatest_below test n)) (add-one q)
+      ∙ ap (λ b. longest (cond (b && eqb (accept_of table (row_at table x s q)) 1) (Some q) (greatest_below test q))) (lt-ltb s q past)
+      ∙ longest_cond (eqb (accept_of table (row_at table x s q)) 1) q (greatest_below test q)
 
   stops_at : (q : ℕ) → row q ≡ 0 → stop q ≡ true
   unfolding row stop
@@ -71,37 +84,36 @@ module _ (table : Table) (plain : (row : ℕ) → completes table row ≡ false)
       ∙ ap (λ d. step table (row_at table x s q) (category_of table.ranges d)) (ap (λ l. get_or l 0 0) (sym (drop_more x q 0 short) ∙ rest))
 
   scan_is : (behind : List ℕ) (q : ℕ) → s < q → q + length behind ≡ length x → drop q x ≡ behind → stop q ≡ false →
-      scan table (row q) (unwrap_or (greatest_below test q) (s + 1)) q behind
-      ≡ unwrap_or (greatest_below test (least_from stop q (length behind) + 1)) (s + 1)
-  scan_is [] q past long rest going = sym (top q (s + 1) past)
+      scan table (row q) (longest (greatest_below test q)) q behind ≡ longest (greatest_below test (least_from stop q (length behind) + 1))
+  scan_is [] q past long rest going = sym (top q past)
   scan_is (c ∷ behind) q past long rest going =
       let next : ℕ = step table (row q) (category_of table.ranges c) in
-      let last : ℕ = unwrap_or (greatest_below test q) (s + 1) in
+      let last : Boundary = longest (greatest_below test q) in
       let short : q < length x = omega (arith, long) in
       let seam : get_or x q 0 ∷ drop (q + 1) x ≡ c ∷ behind = sym (drop_more x q 0 short) ∙ rest in
       let goes = goes_to q c behind (omega arith) short rest in
       let further : least_from stop q (length (c ∷ behind)) ≡ least_from stop (q + 1) (length behind) =
       cond-false (stop q) q (least_from stop (q + 1) (length behind)) going in
-      let at : ℕ → ℕ = λ z. unwrap_or (greatest_below test (z + 1)) (s + 1) in
+      let at : ℕ → Boundary = λ z. longest (greatest_below test (z + 1)) in
       ⊎_elim
       (λ dies.
       cond-true (eqb next 0) (ended table (row q) last q) (scan table next (ended table (row q) last q) (q + 1) behind) dies
-      ∙ sym (top q (s + 1) past)
-      ∙ sym (top (q + 1) (s + 1) (omega arith)
-      ∙ ap (λ r. ended table r (unwrap_or (greatest_below test (q + 1)) (s + 1)) (q + 1)) (goes ∙ eqb-true next 0 dies)
-      ∙ ap (λ a. cond (eqb a 1) (q + 1) (unwrap_or (greatest_below test (q + 1)) (s + 1))) dead)
+      ∙ sym (top q past)
+      ∙ sym (top (q + 1) (omega arith)
+      ∙ ap (λ r. ended table r (longest (greatest_below test (q + 1))) (q + 1)) (goes ∙ eqb-true next 0 dies)
+      ∙ ap (λ a. cond (eqb a 1) (ending table 0 (q + 1)) (longest (greatest_below test (q + 1)))) dead)
       ∙ ap at (sym (least_here stop (q + 1) (length behind) (stops_at (q + 1) (goes ∙ eqb-true next 0 dies))) ∙ sym further))
       (λ lives.
       cond-false (eqb next 0) (ended table (row q) last q) (scan table next (ended table (row q) last q) (q + 1) behind) lives
-      ∙ ap₂ (λ r l. scan table r l (q + 1) behind) (sym goes) (sym (top q (s + 1) past))
+      ∙ ap₂ (λ r l. scan table r l (q + 1) behind) (sym goes) (sym (top q past))
       ∙ scan_is behind (q + 1) (omega arith) (omega (arith, long)) (ap (λ l. drop 1 l) seam) (goes_on (q + 1) (ap (λ r. eqb r 0) goes ∙ lives))
       ∙ ap at (sym further))
       (cases_Bool (eqb next 0))
 
   -- the next boundary is where the pass ends that begins behind one character
   pub next_is : (c : ℕ) (behind : List ℕ) → drop s x ≡ c ∷ behind → s < length x → eqb (step table 1 (category_of table.ranges c)) 0 ≡ false →
-      (next_boundary table x s).at ≡ scan table (step table 1 (category_of table.ranges c)) (s + 1) (s + 1) behind
-  unfolding row stop test
+      next_boundary table x s ≡ scan table (step table 1 (category_of table.ranges c)) (single table s) (s + 1) behind
+  unfolding row stop test longest
   next_is c behind rest short lives =
       let of : ℕ → ℕ = category_of table.ranges in
       let z : ℕ = search_end table x s in
@@ -116,9 +128,9 @@ module _ (table : Table) (plain : (row : ℕ) → completes table row ≡ false)
       let long : length x - (s + 1) ≡ length behind = omega (arith, length-drop s x, ap length rest) in
       let none : greatest_below test (s + 1) ≡ None = none_below test (s + 1)
       (λ q below. and_left (ltb s q) (eqb (accept_of table (row_at table x s q)) 1) (le-ltb s q (omega arith))) in
-      ap (λ f. f.at) (cond-false (completes table (row_at table x s z)) cut (found_longest table x s (longest_place table x s z)) (plain (row_at table x s z)))
-      ∙ longest_at table x s (longest_place table x s z)
-      ∙ ap (λ n. unwrap_or (greatest_below test (least_from stop (s + 1) n + 1)) (s + 1)) long
+      ap (boundary_of table) (cond-false (completes table (row_at table x s z)) cut (found_longest table x s (longest_place table x s z))
+      (plain (row_at table x s z)))
+      ∙ ap (λ n. longest (greatest_below test (least_from stop (s + 1) n + 1))) long
       ∙ sym (scan_is behind (s + 1) (omega arith) (omega (arith, long, short)) (ap (λ l. drop 1 l) seam)
       (goes_on (s + 1) (ap (λ r. eqb r 0) goes ∙ lives)))
-      ∙ ap₂ (λ r p. scan table r (unwrap_or p (s + 1)) (s + 1) behind) goes none
+      ∙ ap₂ (λ r p. scan table r (longest p) (s + 1) behind) goes none

@@ -1,5 +1,5 @@
 -- The monitor of the rules on sentences.
-use Rattle.std.proofs.Common.{◌≡◌, ℕ, Bool, true, false, not, ◌&&◌, ◌||◌, eqb, List, [], ◌∷◌, Option, Some, None, map, get_or, sym, refl, ap, ap₂, ◌∙◌, cond}
+use Rattle.std.proofs.Common.{◌≡◌, ℕ, ◌+◌, ◌/◌, ◌%◌, Bool, true, false, not, ◌&&◌, ◌||◌, eqb, leb, List, [], ◌∷◌, Option, Some, None, map, get_or, sym, refl, ap, ap₂, ◌∙◌, cond}
 use Rattle.std.specs.Prelude.{unwrap_or}
 use Rattle.std.specs.Bool.{beq}
 use Rattle.std.proofs.lemmas.Bool.{and_parts, eqb-true, false≢true}
@@ -12,7 +12,9 @@ use Rattle.ucd_breaks.proofs.SentenceBreakLemmas.{sentence_break_stepped, senten
 use Rattle.unicode_segmentation.specs.Sentence.{break_by_pair, is_ignored, is_para_sep, is_sa_term, is_a_term, is_cased, is_letter, is_lower, is_upper, is_numeric, is_close, is_sp, is_s_continue}
 use Rattle.unicode_segmentation.specs.Sentence.{significant, skip, value_at, before_close, before_close_sp, reaches_lower, joins, is_sentence_break}
 use Rattle.rbbi_model.specs.Words.{IsCharacter, IsText}
-use Rattle.rbbi_annexes.proofs.Monitors.{Monitor, seen, coming, Tells}
+use Rattle.rbbi_annexes.specs.Statuses.{sentence_status}
+use Rattle.rbbi_annexes.proofs.Ends.{sentences_at_ends}
+use Rattle.rbbi_annexes.proofs.Monitors.{Monitor, seen, coming, labelled, Tells}
 
 -- the rules read of Format what they read of Extend
 abbrev pub plain_value : SentenceBreak → SentenceBreak
@@ -140,6 +142,21 @@ unfoldable pub breaks_by : Option SentenceBreak → Left → SentenceBreak → B
 breaks_by None m value ahead = true
 breaks_by (Some last) m value ahead = unwrap_or (break_by_pair last value) (not (joins_by m value (lower_by value ahead)) && m.spaced_term)
 
+-- What the status of a sentence reads of the values that SB5 leaves, as three bits: a terminator stands before Close*, before Close* Sp*, and
+-- before Close* Sp* and separators.
+abbrev pub tail_number : Bool → Bool → Bool → ℕ
+tail_number closed spaced ended = cond closed 1 0 + (cond spaced 2 0 + cond ended 4 0)
+
+unfoldable pub tail_after : ℕ → SentenceBreak → ℕ
+tail_after t value =
+    let closed : Bool = cond (is_close value) (eqb (t % 2) 1) (is_sa_term value) in
+    let spaced : Bool = cond (is_sp value) (eqb (t / 2 % 2) 1) closed in
+    let ended : Bool = cond (is_para_sep value) (leb 4 t) spaced in
+    cond (is_ignored value) t (tail_number closed spaced ended)
+
+abbrev pub tail_status : ℕ → ℕ
+tail_status t = cond (leb 4 t) 0 100
+
 -- the monitor, for the classes of the categories
 abbrev pub sentence_monitor : List SentenceBreak → Monitor Before
 sentence_monitor classes =
@@ -149,6 +166,8 @@ sentence_monitor classes =
       nothing = 0;
       ahead = λ k p. number_of (lower_by (get_or classes k Other) (eqb p 1));
       breaks = λ m k p. breaks_by m.last m.left (get_or classes k Other) (eqb p 1);
+      label = λ t k. tail_after t (get_or classes k Other);
+      status = tail_status;
     }
 
 abbrev pub left_of : List SentenceBreak → Left
@@ -174,6 +193,50 @@ left_step : (v : SentenceBreak) (vs : List SentenceBreak) → left_after (left_o
 unfolding left_after skip
 left_step Format vs = refl
 left_step _ vs = refl
+
+-- the bits for these values
+abbrev tail_of : List SentenceBreak → ℕ
+tail_of vs = tail_number (is_sa_term (before_close vs)) (is_sa_term (before_close_sp vs)) (is_sa_term (before_close_sp (skip is_para_sep vs)))
+
+tail_bits : (closed spaced ended : Bool) (v : SentenceBreak) → tail_after (tail_number closed spaced ended) v
+    ≡ cond (is_ignored v) (tail_number closed spaced ended)
+    (tail_number (cond (is_close v) closed (is_sa_term v)) (cond (is_sp v) spaced (cond (is_close v) closed (is_sa_term v)))
+    (cond (is_para_sep v) ended (cond (is_sp v) spaced (cond (is_close v) closed (is_sa_term v)))))
+unfolding tail_after
+tail_bits true true true v = refl
+tail_bits true true false v = refl
+tail_bits true false true v = refl
+tail_bits true false false v = refl
+tail_bits false true true v = refl
+tail_bits false true false v = refl
+tail_bits false false true v = refl
+tail_bits false false false v = refl
+
+tail_value : (v : SentenceBreak) (vs : List SentenceBreak) → cond (is_ignored (plain_value v)) (tail_of vs)
+    (tail_number (cond (is_close (plain_value v)) (is_sa_term (before_close vs)) (is_sa_term (plain_value v)))
+    (cond (is_sp (plain_value v)) (is_sa_term (before_close_sp vs)) (cond (is_close (plain_value v)) (is_sa_term (before_close vs)) (is_sa_term (plain_value v))))
+    (cond (is_para_sep (plain_value v)) (is_sa_term (before_close_sp (skip is_para_sep vs)))
+    (cond (is_sp (plain_value v)) (is_sa_term (before_close_sp vs)) (cond (is_close (plain_value v)) (is_sa_term (before_close vs))
+    (is_sa_term (plain_value v))))))
+    ≡ tail_of (cond (is_ignored v) vs (v ∷ vs))
+unfolding skip
+tail_value Format vs = refl
+tail_value _ vs = refl
+
+tail_step : (v : SentenceBreak) (vs : List SentenceBreak) → tail_after (tail_of vs) (plain_value v) ≡ tail_of (cond (is_ignored v) vs (v ∷ vs))
+tail_step v vs =
+    tail_bits (is_sa_term (before_close vs)) (is_sa_term (before_close_sp vs)) (is_sa_term (before_close_sp (skip is_para_sep vs))) (plain_value v)
+    ∙ tail_value v vs
+
+tail_ends : (closed spaced ended : Bool) → tail_status (tail_number closed spaced ended) ≡ cond ended 0 100
+tail_ends true true true = refl
+tail_ends true true false = refl
+tail_ends true false true = refl
+tail_ends true false false = refl
+tail_ends false true true = refl
+tail_ends false true false = refl
+tail_ends false false true = refl
+tail_ends false false false = refl
 
 lower_step : (v : SentenceBreak) (b : Bool) → lower_by (plain_value v) b ≡ lower_by v b
 lower_step Format b = refl
@@ -237,20 +300,22 @@ module _ (classes : List SentenceBreak) (category : ℕ → ℕ) (fits : (c : �
       (joins_plain (left_of vs) value (lower_by (plain_value value) ahead) ∙ joins_is vs value (lower_by (plain_value value) ahead)
       ∙ ap (joins vs value) (lower_step value ahead))
 
-  end_breaks : (before : List ℕ) → is_sentence_break before [] ≡ true
-  unfolding is_sentence_break
-  end_breaks [] = refl
-  end_breaks (last ∷ before) = refl
+  tail_is : (sentence : List ℕ) → IsText sentence → labelled (sentence_monitor classes) category sentence ≡ tail_of (significant sentence)
+  unfolding significant skip
+  tail_is [] are = refl
+  tail_is (c ∷ before) are = ap₂ tail_after (tail_is before are.1) (fits c are.0) ∙ tail_step (sentence_break c) (significant before)
 
-  start_breaks : (behind : List ℕ) → is_sentence_break [] behind ≡ true
-  unfolding is_sentence_break
-  start_breaks behind = refl
+  ends_so : (sentence : List ℕ) → IsText sentence →
+      sentence_status sentence ≡ tail_status (labelled (sentence_monitor classes) category sentence)
+  ends_so sentence are =
+      let vs : List SentenceBreak = significant sentence in
+      sym (ap tail_status (tail_is sentence are)
+      ∙ tail_ends (is_sa_term (before_close vs)) (is_sa_term (before_close_sp vs)) (is_sa_term (before_close_sp (skip is_para_sep vs))))
 
-  pub sentence_tells : Tells (sentence_monitor classes) category is_sentence_break
+  pub sentence_tells : Tells (sentence_monitor classes) category is_sentence_break sentence_status
   sentence_tells =
       record {
-        start = start_breaks;
-        end = end_breaks;
+        ends = sentences_at_ends;
         inside = λ before c behind before_are is behind_are.
             sym (breaks_is before c behind)
             ∙ sym (ap₂ (λ (m : Before) (value : SentenceBreak). breaks_by m.last m.left value (reaches_lower (map sentence_break behind)))
@@ -258,9 +323,10 @@ module _ (classes : List SentenceBreak) (category : ℕ → ℕ) (fits : (c : �
             ∙ ap (λ b. breaks_by (seen (sentence_monitor classes) category before).last (seen (sentence_monitor classes) category before).left
             (get_or classes (category c) Other) b)
             (sym (ap (λ p. eqb p 1) (coming_is behind behind_are) ∙ number_is (reaches_lower (map sentence_break behind))));
+        status_is = ends_so;
       }
 
 -- `unfolding sentence_tests` lets `refl` compute the tests for the table of sentences
 unfoldable pub sentence_tests : Unit {0}
-unfolding same_class same_last same_left same_before left_after joins_by breaks_by
+unfolding same_class same_last same_left same_before left_after tail_after joins_by breaks_by
 sentence_tests = tt

@@ -10,33 +10,42 @@ use Rattle.ucd_breaks.specs.WordBreak.{word_break, word_break_number}
 use Rattle.ucd_breaks.specs.declared.WordBreak.{WordBreak}
 use Rattle.ucd_breaks.specs.declared.WordBreak.TheVariants.{Extend, Format, HebrewLetter, ALetter, Numeric, Other, Zwj}
 use Rattle.ucd_breaks.proofs.WordBreakLemmas.{word_break_stepped, word_break_number_injective}
+use Rattle.ucd_script.specs.Script.{script}
+use Rattle.ucd_script.specs.declared.Script.{Script}
+use Rattle.ucd_script.proofs.ScriptLemmas.{script_stepped}
 use Rattle.ucd_emoji.specs.Binary.{is_extended_pictographic}
 use Rattle.ucd_emoji.proofs.BinaryLemmas.{is_extended_pictographic_stepped}
 use Rattle.unicode_segmentation.specs.Word.{break_by_pair, is_ignored, is_ah_letter, is_hebrew_letter, is_mid_letter, is_mid_num, is_single_quote}
 use Rattle.unicode_segmentation.specs.Word.{is_double_quote, is_numeric, is_katakana, is_extend_num_let, is_regional, significant, starts_with_half_flag}
 use Rattle.unicode_segmentation.specs.Word.{joins, value_at, is_word_break}
 use Rattle.rbbi_model.specs.Words.{IsCharacter, IsText}
-use Rattle.rbbi_annexes.proofs.Monitors.{Monitor, seen, coming, Tells}
+use Rattle.rbbi_annexes.specs.Statuses.{word_kind, word_status}
+use Rattle.rbbi_annexes.proofs.Ends.{words_at_ends}
+use Rattle.rbbi_annexes.proofs.Monitors.{Monitor, seen, coming, labelled, Tells}
 
 -- the rules read of Format what they read of Extend
 abbrev pub plain_value : WordBreak → WordBreak
 plain_value Format = Extend
 plain_value value = value
 
--- what the rules read of a character
+-- what the rules read of a character, and what the status reads
 pub record Class : Type 0 where
   pub value : WordBreak
   pub pictograph : Bool
+  pub kind : Option ℕ
 
 abbrev pub class_of : ℕ → Class
-class_of c = record { value = plain_value (word_break c); pictograph = is_extended_pictographic c }
+class_of c =
+    record { value = plain_value (word_break c); pictograph = is_extended_pictographic c; kind = word_kind (word_break c) (script c) }
 
 abbrev pub other_class : Class
-other_class = record { value = Other; pictograph = false }
+other_class = record { value = Other; pictograph = false; kind = None }
 
 abbrev pub class_stepped : Stepped class_of
 class_stepped =
-    zip_stepped (λ v b. record { value = plain_value v; pictograph = b }) word_break is_extended_pictographic word_break_stepped
+    zip_stepped (λ (vs : WordBreak × Script) b. record { value = plain_value vs.0; pictograph = b; kind = word_kind vs.0 vs.1 })
+    (λ c. (word_break c, script c)) is_extended_pictographic
+    (zip_stepped (λ v s. (v, s)) word_break script word_break_stepped script_stepped)
     is_extended_pictographic_stepped
 
 unfoldable pub same_value : WordBreak → WordBreak → Bool
@@ -46,14 +55,31 @@ same_value-true : (a b : WordBreak) → same_value a b ≡ true → a ≡ b
 unfolding same_value
 same_value-true a b is = word_break_number_injective a b (eqb-true (word_break_number a) (word_break_number b) is)
 
+unfoldable pub same_kind : Option ℕ → Option ℕ → Bool
+same_kind None None = true
+same_kind (Some a) (Some b) = eqb a b
+same_kind _ _ = false
+
+same_kind-true : (a b : Option ℕ) → same_kind a b ≡ true → a ≡ b
+unfolding same_kind
+same_kind-true None None is = refl
+same_kind-true (Some a) (Some b) is = ap Some (eqb-true a b is)
+same_kind-true None (Some b) is = absurd (false≢true is)
+same_kind-true (Some a) None is = absurd (false≢true is)
+
 unfoldable pub same_class : Class → Class → Bool
-same_class a b = same_value a.value b.value && beq a.pictograph b.pictograph
+same_class a b = same_value a.value b.value && (beq a.pictograph b.pictograph && same_kind a.kind b.kind)
 
 pub same_class-true : (a b : Class) → same_class a b ≡ true → a ≡ b
 unfolding same_class
 same_class-true a b is =
-    let parts = and_parts (same_value a.value b.value) (beq a.pictograph b.pictograph) is in
-    λ i. record { value = same_value-true a.value b.value parts.0 i; pictograph = same_from_beq a.pictograph b.pictograph parts.1 i }
+    let parts = and_parts (same_value a.value b.value) (beq a.pictograph b.pictograph && same_kind a.kind b.kind) is in
+    let others = and_parts (beq a.pictograph b.pictograph) (same_kind a.kind b.kind) parts.1 in
+    λ i. record {
+      value = same_value-true a.value b.value parts.0 i;
+      pictograph = same_from_beq a.pictograph b.pictograph others.0 i;
+      kind = same_kind-true a.kind b.kind others.1 i;
+    }
 
 -- What the rules from WB5 on read of the values before a place that WB4 leaves: of the last, and of the last two.
 pub record Left : Type 0 where
@@ -194,6 +220,8 @@ word_monitor classes =
       nothing = 0;
       ahead = λ k p. cond (is_ignored (get_or classes k other_class).value) p (kind_of (get_or classes k other_class).value);
       breaks = λ m k p. breaks_by m.last m.left (get_or classes k other_class) (value_of p);
+      label = λ t k. unwrap_or (get_or classes k other_class).kind t;
+      status = λ t. t;
     }
 
 abbrev pub left_of : List WordBreak → Left
@@ -293,28 +321,23 @@ module _ (classes : List Class) (category : ℕ → ℕ) (fits : (c : ℕ) → I
         regional_is (word_break c) i,
       ))
 
-  end_breaks : (before : List ℕ) → is_word_break before [] ≡ true
-  unfolding is_word_break
-  end_breaks [] = refl
-  end_breaks (last ∷ before) = refl
+  kind_is : (word : List ℕ) → IsText word → word_status word ≡ labelled (word_monitor classes) category word
+  kind_is [] are = refl
+  kind_is (c ∷ before) are = ap₂ (λ t (class : Class). unwrap_or class.kind t) (kind_is before are.1) (sym (fits c are.0))
 
-  start_breaks : (behind : List ℕ) → is_word_break [] behind ≡ true
-  unfolding is_word_break
-  start_breaks behind = refl
-
-  pub word_tells : Tells (word_monitor classes) category is_word_break
+  pub word_tells : Tells (word_monitor classes) category is_word_break word_status
   word_tells =
       record {
-        start = start_breaks;
-        end = end_breaks;
+        ends = words_at_ends;
         inside = λ before c behind before_are is behind_are.
             sym (breaks_is before c behind)
             ∙ sym (ap₂ (λ (m : Before) (class : Class). breaks_by m.last m.left class (value_of (kind_of (value_at (significant behind) 0))))
             (seen_state before before_are) (fits c is))
             ∙ ap (λ p. (word_monitor classes).breaks (seen (word_monitor classes) category before) (category c) p) (sym (coming_kind behind behind_are));
+        status_is = kind_is;
       }
 
 -- `unfolding word_tests` lets `refl` compute the tests for the table of words
 unfoldable pub word_tests : Unit {0}
-unfolding same_value same_class same_last same_left same_before left_after joins_by breaks_by
+unfolding same_value same_kind same_class same_last same_left same_before left_after joins_by breaks_by
 word_tests = tt

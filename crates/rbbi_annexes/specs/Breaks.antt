@@ -24,7 +24,11 @@ breaks_of rule x = breaks_from rule [] x 0
 abbrev pub BreaksBy : Table → Rule → Type 0
 BreaksBy table rule = (x : List ℕ) → IsText x → places (table_boundaries table x) ≡ breaks_of rule x
 
--- the same of a valid table that the bytes spell
+-- the bytes spell a valid table
+abbrev pub SpellTable : List ℕ → Type 0
+SpellTable bytes = (table : Table) × IsValidTable table × IsSpelling bytes table
+
+-- the same as `BreaksBy` of a valid table that the bytes spell
 abbrev pub SpellBreaksBy : List ℕ → Rule → Type 0
 SpellBreaksBy bytes rule = (table : Table) → IsValidTable table → IsSpelling bytes table → BreaksBy table rule
 

@@ -11,34 +11,43 @@ ghost use Rattle.std.specs.Prelude.{true};
 ghost use Rattle.unicode_segmentation.specs.Grapheme.{is_grapheme_break};
 ghost use Rattle.unicode_segmentation.specs.Sentence.{is_sentence_break};
 ghost use Rattle.unicode_segmentation.specs.Word.{is_word_break};
-ghost use Rattle.rbbi_annexes.specs.Breaks.{SpellBreaksBy};
+ghost use Rattle.rbbi_annexes.specs.Breaks.{SpellTable, SpellBreaksBy};
+ghost use Rattle.rbbi_annexes.specs.Statuses.{grapheme_status, word_status, sentence_status};
+ghost use Rattle.rbbi_annexes.specs.Statuses.{SpellBoundaries};
 
 /// The bytes of the table file for grapheme clusters (UAX #29).
 ///
-/// The boundaries of each text by a table that the bytes spell are exactly the places at which the
-/// annex breaks the text.
+/// They spell a valid table. The boundaries of each text by it are exactly the places at which the
+/// annex breaks the text, and their statuses are all 0.
 pub fn graphemes() -> &'static [u8]
-    ensures { SpellBreaksBy result.now (is_grapheme_break true) }
+    ensures places { SpellBreaksBy result.now (is_grapheme_break true) }
+    ensures statuses { SpellBoundaries result.now (is_grapheme_break true) grapheme_status }
+    ensures valid { SpellTable result.now }
 {
     grapheme::GRAPHEME
 }
 
 /// The bytes of the table file for words (UAX #29).
 ///
-/// The boundaries of each text by a table that the bytes spell are exactly the places at which the
-/// annex breaks the text.
+/// They spell a valid table. The boundaries of each text by it are exactly the places at which the
+/// annex breaks the text, each with the status of the word that ends there, by its last character.
 pub fn words() -> &'static [u8]
-    ensures { SpellBreaksBy result.now is_word_break }
+    ensures places { SpellBreaksBy result.now is_word_break }
+    ensures statuses { SpellBoundaries result.now is_word_break word_status }
+    ensures valid { SpellTable result.now }
 {
     word::WORD
 }
 
 /// The bytes of the table file for sentences (UAX #29).
 ///
-/// The boundaries of each text by a table that the bytes spell are exactly the places at which the
-/// annex breaks the text.
+/// They spell a valid table. The boundaries of each text by it are exactly the places at which the
+/// annex breaks the text, each with the status of the sentence that ends there: 0 if a terminator
+/// ends it, and else 100.
 pub fn sentences() -> &'static [u8]
-    ensures { SpellBreaksBy result.now is_sentence_break }
+    ensures places { SpellBreaksBy result.now is_sentence_break }
+    ensures statuses { SpellBoundaries result.now is_sentence_break sentence_status }
+    ensures valid { SpellTable result.now }
 {
     sentence::SENTENCE
 }

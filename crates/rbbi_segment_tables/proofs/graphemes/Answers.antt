@@ -1,5 +1,11 @@
-use Rattle.rbbi_segment_tables.proofs.GraphemeTable.{graphemes_break}
+use Rattle.rbbi_segment_tables.proofs.GraphemeTable.{grapheme_boundaries, graphemes_break, graphemes_spelled}
 use Rattle.rbbi_segment_tables.proofs.graphemes.Goals as goal
 
-pub returns : goal.returns
-returns c = graphemes_break
+pub returns-clause-places : goal.returns-clause-places
+returns-clause-places c = graphemes_break
+
+pub returns-clause-statuses : goal.returns-clause-statuses
+returns-clause-statuses c = grapheme_boundaries
+
+pub returns-clause-valid : goal.returns-clause-valid
+returns-clause-valid c = graphemes_spelled

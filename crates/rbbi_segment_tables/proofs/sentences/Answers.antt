@@ -1,5 +1,11 @@
-use Rattle.rbbi_segment_tables.proofs.SentenceTable.{sentences_break}
+use Rattle.rbbi_segment_tables.proofs.SentenceTable.{sentence_boundaries, sentences_break, sentences_spelled}
 use Rattle.rbbi_segment_tables.proofs.sentences.Goals as goal
 
-pub returns : goal.returns
-returns c = sentences_break
+pub returns-clause-places : goal.returns-clause-places
+returns-clause-places c = sentences_break
+
+pub returns-clause-statuses : goal.returns-clause-statuses
+returns-clause-statuses c = sentence_boundaries
+
+pub returns-clause-valid : goal.returns-clause-valid
+returns-clause-valid c = sentences_spelled

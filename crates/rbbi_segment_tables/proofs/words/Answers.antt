@@ -1,5 +1,11 @@
-use Rattle.rbbi_segment_tables.proofs.WordTable.{words_break}
+use Rattle.rbbi_segment_tables.proofs.WordTable.{word_boundaries, words_break, words_spelled}
 use Rattle.rbbi_segment_tables.proofs.words.Goals as goal
 
-pub returns : goal.returns
-returns c = words_break
+pub returns-clause-places : goal.returns-clause-places
+returns-clause-places c = words_break
+
+pub returns-clause-statuses : goal.returns-clause-statuses
+returns-clause-statuses c = word_boundaries
+
+pub returns-clause-valid : goal.returns-clause-valid
+returns-clause-valid c = words_spelled
