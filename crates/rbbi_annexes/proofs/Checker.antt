@@ -33,7 +33,7 @@ unfoldable pub member : {X : Type 0} → (X → X → Bool) → X → List X →
 member same x [] = false
 member same x (y ∷ ys) = let later = member same x ys in cond (same x y) true later
 
-each-member : {X : Type 0} (same : X → X → Bool) → ((x y : X) → same x y ≡ true → x ≡ y) → (test : X → Bool) (x : X) (ys : List X) →
+pub each-member : {X : Type 0} (same : X → X → Bool) → ((x y : X) → same x y ≡ true → x ≡ y) → (test : X → Bool) (x : X) (ys : List X) →
     each test ys ≡ true → member same x ys ≡ true → test x ≡ true
 unfolding each member
 each-member same equal test x [] all is = absurd (false≢true is)

@@ -1,8 +1,10 @@
 -- The table that is built in for graphemes gives the boundaries of UAX #29: the kernel computes the tests of the table that the bytes spell.
-use Rattle.std.proofs.Common.{◌≡◌, ℕ, Bool, true, not, eqb, leb, get_or, List, refl, inl}
+use Rattle.std.proofs.Common.{◌≡◌, ◌≤◌, ℕ, Bool, true, not, eqb, leb, get_or, List, length, refl, inl}
+use Rattle.std.proofs.lemmas.Bool.{leb-true}
 use Rattle.unicode_segmentation.specs.Grapheme.{is_grapheme_break}
 use Rattle.rbbi_model.specs.Tables.{Table}
 use Rattle.rbbi_model.specs.TableFile.{spelling}
+use Rattle.rbbi_text.specs.Bytes.{most_bytes}
 use Rattle.rbbi_annexes.specs.Breaks.{SpellTable, SpellBreaksBy}
 use Rattle.rbbi_annexes.specs.Statuses.{grapheme_status, SpellBoundaries}
 use Rattle.rbbi_annexes.proofs.Categories.{classes_fit}
@@ -52,6 +54,9 @@ version = refl
 few : leb (two (get_or GRAPHEME.now 16 0) (get_or GRAPHEME.now 17 0)) 255 ≡ true
 few = refl
 
+short : leb (length GRAPHEME.now) most_bytes ≡ true
+short = refl
+
 read : table_in GRAPHEME.now ≡ table
 unfolding table
 read = refl
@@ -74,3 +79,6 @@ spelled = refl
 
 pub graphemes_spelled : SpellTable GRAPHEME.now
 graphemes_spelled = (table, valid-true table valid, inl spelled)
+
+pub graphemes_short : length GRAPHEME.now ≤ most_bytes
+graphemes_short = leb-true (length GRAPHEME.now) most_bytes short

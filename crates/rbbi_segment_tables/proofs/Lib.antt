@@ -1,3 +1,4 @@
 pub mod GraphemeTable
 pub mod WordTable
 pub mod SentenceTable
+pub mod LineTable

@@ -1,10 +1,12 @@
 -- The table that is built in for sentences gives the boundaries of UAX #29: the kernel computes the tests of the table that the bytes spell.
-use Rattle.std.proofs.Common.{◌≡◌, ℕ, Bool, true, not, eqb, leb, get_or, List, refl, inl}
+use Rattle.std.proofs.Common.{◌≡◌, ◌≤◌, ℕ, Bool, true, not, eqb, leb, get_or, List, length, refl, inl}
 use Rattle.ucd_breaks.specs.declared.SentenceBreak.{SentenceBreak}
 use Rattle.ucd_breaks.specs.declared.SentenceBreak.TheVariants.{Other}
+use Rattle.std.proofs.lemmas.Bool.{leb-true}
 use Rattle.unicode_segmentation.specs.Sentence.{is_sentence_break}
 use Rattle.rbbi_model.specs.Tables.{Table}
 use Rattle.rbbi_model.specs.TableFile.{spelling}
+use Rattle.rbbi_text.specs.Bytes.{most_bytes}
 use Rattle.rbbi_annexes.specs.Breaks.{SpellTable, SpellBreaksBy}
 use Rattle.rbbi_annexes.specs.Statuses.{sentence_status, SpellBoundaries}
 use Rattle.rbbi_annexes.proofs.Categories.{classes_fit}
@@ -54,6 +56,9 @@ version = refl
 few : leb (two (get_or SENTENCE.now 16 0) (get_or SENTENCE.now 17 0)) 255 ≡ true
 few = refl
 
+short : leb (length SENTENCE.now) most_bytes ≡ true
+short = refl
+
 read : table_in SENTENCE.now ≡ table
 unfolding table
 read = refl
@@ -76,3 +81,6 @@ spelled = refl
 
 pub sentences_spelled : SpellTable SENTENCE.now
 sentences_spelled = (table, valid-true table valid, inl spelled)
+
+pub sentences_short : length SENTENCE.now ≤ most_bytes
+sentences_short = leb-true (length SENTENCE.now) most_bytes short

@@ -1,8 +1,10 @@
 -- The table that is built in for words gives the boundaries of UAX #29: the kernel computes the tests of the table that the bytes spell.
-use Rattle.std.proofs.Common.{◌≡◌, ℕ, Bool, true, not, eqb, leb, get_or, List, refl, inl}
+use Rattle.std.proofs.Common.{◌≡◌, ◌≤◌, ℕ, Bool, true, not, eqb, leb, get_or, List, length, refl, inl}
+use Rattle.std.proofs.lemmas.Bool.{leb-true}
 use Rattle.unicode_segmentation.specs.Word.{is_word_break}
 use Rattle.rbbi_model.specs.Tables.{Table}
 use Rattle.rbbi_model.specs.TableFile.{spelling}
+use Rattle.rbbi_text.specs.Bytes.{most_bytes}
 use Rattle.rbbi_annexes.specs.Breaks.{SpellTable, SpellBreaksBy}
 use Rattle.rbbi_annexes.specs.Statuses.{word_status, SpellBoundaries}
 use Rattle.rbbi_annexes.proofs.Categories.{classes_fit}
@@ -52,6 +54,9 @@ version = refl
 few : leb (two (get_or WORD.now 16 0) (get_or WORD.now 17 0)) 255 ≡ true
 few = refl
 
+short : leb (length WORD.now) most_bytes ≡ true
+short = refl
+
 read : table_in WORD.now ≡ table
 unfolding table
 read = refl
@@ -74,3 +79,6 @@ spelled = refl
 
 pub words_spelled : SpellTable WORD.now
 words_spelled = (table, valid-true table valid, inl spelled)
+
+pub words_short : length WORD.now ≤ most_bytes
+words_short = leb-true (length WORD.now) most_bytes short

@@ -4,16 +4,20 @@
 
 mod grapheme;
 mod line;
+mod loading;
 mod sentence;
 mod word;
 
-ghost use Rattle.std.specs.Prelude.{true};
+ghost use Rattle.std.specs.Prelude.{◌≤◌, length, true};
 ghost use Rattle.unicode_segmentation.specs.Grapheme.{is_grapheme_break};
 ghost use Rattle.unicode_segmentation.specs.Sentence.{is_sentence_break};
 ghost use Rattle.unicode_segmentation.specs.Word.{is_word_break};
+ghost use Rattle.rbbi_text.specs.Bytes.{most_bytes};
 ghost use Rattle.rbbi_annexes.specs.Breaks.{SpellTable, SpellBreaksBy};
 ghost use Rattle.rbbi_annexes.specs.Statuses.{grapheme_status, word_status, sentence_status};
 ghost use Rattle.rbbi_annexes.specs.Statuses.{SpellBoundaries};
+
+pub use loading::{Kind, built_in};
 
 /// The bytes of the table file for grapheme clusters (UAX #29).
 ///
@@ -23,6 +27,7 @@ pub fn graphemes() -> &'static [u8]
     ensures places { SpellBreaksBy result.now (is_grapheme_break true) }
     ensures statuses { SpellBoundaries result.now (is_grapheme_break true) grapheme_status }
     ensures valid { SpellTable result.now }
+    ensures short { length result.now ≤ most_bytes }
 {
     grapheme::GRAPHEME
 }
@@ -35,6 +40,7 @@ pub fn words() -> &'static [u8]
     ensures places { SpellBreaksBy result.now is_word_break }
     ensures statuses { SpellBoundaries result.now is_word_break word_status }
     ensures valid { SpellTable result.now }
+    ensures short { length result.now ≤ most_bytes }
 {
     word::WORD
 }
@@ -48,11 +54,15 @@ pub fn sentences() -> &'static [u8]
     ensures places { SpellBreaksBy result.now is_sentence_break }
     ensures statuses { SpellBoundaries result.now is_sentence_break sentence_status }
     ensures valid { SpellTable result.now }
+    ensures short { length result.now ≤ most_bytes }
 {
     sentence::SENTENCE
 }
 
-/// The bytes of the table file for lines (UAX #14).
-pub fn lines() -> &'static [u8] {
+/// The bytes of the table file for lines (UAX #14). They spell a valid table.
+pub fn lines() -> &'static [u8]
+    ensures valid { SpellTable result.now }
+    ensures short { length result.now ≤ most_bytes }
+{
     line::LINE
 }

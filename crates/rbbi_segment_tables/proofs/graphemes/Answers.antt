@@ -1,4 +1,4 @@
-use Rattle.rbbi_segment_tables.proofs.GraphemeTable.{grapheme_boundaries, graphemes_break, graphemes_spelled}
+use Rattle.rbbi_segment_tables.proofs.GraphemeTable.{grapheme_boundaries, graphemes_break, graphemes_spelled, graphemes_short}
 use Rattle.rbbi_segment_tables.proofs.graphemes.Goals as goal
 
 pub returns-clause-places : goal.returns-clause-places
@@ -9,3 +9,6 @@ returns-clause-statuses c = grapheme_boundaries
 
 pub returns-clause-valid : goal.returns-clause-valid
 returns-clause-valid c = graphemes_spelled
+
+pub returns-clause-short : goal.returns-clause-short
+returns-clause-short c = graphemes_short

@@ -1,4 +1,4 @@
-use Rattle.rbbi_segment_tables.proofs.SentenceTable.{sentence_boundaries, sentences_break, sentences_spelled}
+use Rattle.rbbi_segment_tables.proofs.SentenceTable.{sentence_boundaries, sentences_break, sentences_spelled, sentences_short}
 use Rattle.rbbi_segment_tables.proofs.sentences.Goals as goal
 
 pub returns-clause-places : goal.returns-clause-places
@@ -9,3 +9,6 @@ returns-clause-statuses c = sentence_boundaries
 
 pub returns-clause-valid : goal.returns-clause-valid
 returns-clause-valid c = sentences_spelled
+
+pub returns-clause-short : goal.returns-clause-short
+returns-clause-short c = sentences_short

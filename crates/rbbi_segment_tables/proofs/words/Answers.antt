@@ -1,4 +1,4 @@
-use Rattle.rbbi_segment_tables.proofs.WordTable.{word_boundaries, words_break, words_spelled}
+use Rattle.rbbi_segment_tables.proofs.WordTable.{word_boundaries, words_break, words_spelled, words_short}
 use Rattle.rbbi_segment_tables.proofs.words.Goals as goal
 
 pub returns-clause-places : goal.returns-clause-places
@@ -9,3 +9,6 @@ returns-clause-statuses c = word_boundaries
 
 pub returns-clause-valid : goal.returns-clause-valid
 returns-clause-valid c = words_spelled
+
+pub returns-clause-short : goal.returns-clause-short
+returns-clause-short c = words_short
