@@ -1,27 +1,42 @@
 //! The properties that are built in, against the kit's own look-up of names and Unicode's files.
 use crate::{Property, Unknown, add_asked_for, advice_at};
 use rbbi_props::PropTable;
-use rbbi_sets::{CodeRange, CodeSet};
+use rbbi_sets::CodeSet;
 use std::alloc::{AllocError, Global};
 use std::test::Fail;
 use unicode::sets::{by_value, normalize};
 
-/// The set that the kit finds for a property and a value.
-fn set_of_kit(alloc: Global, name: &str, value: &str) -> Result<Option<CodeSet>, AllocError> {
+/// Whether a range of the set has all from one code point to another.
+fn has_all(found: &CodeSet, low: u32, high: u32) -> bool {
+    for range in found.ranges() {
+        if range.low <= low && high <= range.high {
+            return true;
+        }
+    }
+    false
+}
+
+/// Whether a set is the one that the kit finds for a property and a value: it has all its ranges,
+/// and is as large.
+fn is_kits(alloc: Global, found: &CodeSet, name: &str, value: &str) -> Result<bool, AllocError> {
     let name = normalize(alloc, name.chars().collect::<Vec<char>>(alloc)?.as_slice())?;
     let value = normalize(alloc, value.chars().collect::<Vec<char>>(alloc)?.as_slice())?;
     let Ok(set) = by_value(&name, &value) else {
-        return Ok(None);
+        return Ok(false);
     };
-    let pairs = set.ranges(alloc)?;
-    let mut ranges = Vec::new(alloc);
-    for (low, high) in &pairs {
-        ranges.push(CodeRange {
-            low: *low,
-            high: *high,
-        })?;
+    let mut left: u32 = 0;
+    for range in found.ranges() {
+        left = left
+            .wrapping_add(range.high.wrapping_sub(range.low))
+            .wrapping_add(1);
     }
-    Ok(Some(CodeSet::from_ranges(alloc, ranges)?))
+    for (low, high) in &set.ranges(alloc)? {
+        if !has_all(found, *low, *high) {
+            return Ok(false);
+        }
+        left = left.wrapping_sub(high.wrapping_sub(*low)).wrapping_sub(1);
+    }
+    Ok(left == 0)
 }
 
 /// The first name of a value by which the kit has another set.
@@ -30,14 +45,11 @@ fn first_wrong(alloc: Global, property: Property) -> Result<Option<&'static str>
     files.add_runs("x", property.runs(), property.values())?;
     for names in property.values() {
         for name in names.split(' ') {
-            let found = files.lookup(alloc, "x", Some(name))?;
+            let Some(found) = files.lookup(alloc, "x", Some(name))? else {
+                return Ok(Some(name));
+            };
             for asked in property.names().split(' ') {
-                let kit = set_of_kit(alloc, asked, name)?;
-                let is_same = match (&found, &kit) {
-                    (Some(found), Some(kit)) => found.ranges() == kit.ranges(),
-                    _ => false,
-                };
-                if !is_same {
+                if !is_kits(alloc, &found, asked, name)? {
                     return Ok(Some(name));
                 }
             }
