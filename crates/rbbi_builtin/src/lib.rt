@@ -2,6 +2,7 @@
 //! points that have them.
 #![tactic(auto)]
 
+mod compile;
 mod fill;
 mod names;
 mod near;
@@ -9,6 +10,7 @@ mod property;
 #[cfg(test)]
 mod tests;
 
+pub use compile::compile_over;
 pub use fill::add_asked_for;
 pub use near::{Advice, Unknown, advice_at};
 pub use property::{Property, property_named};

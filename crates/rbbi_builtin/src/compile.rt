@@ -1,0 +1,55 @@
+//! Compiling rules over property files and what is built in.
+ghost use Rattle.std.specs.Prelude.{◌≡◌, ◌≤◌, ◌⊎◌, length, IfOk, IfErr};
+ghost use Rattle.std.specs.Str.{chars};
+ghost use Rattle.rbbi_text.specs.Bytes.{most_bytes};
+ghost use Rattle.rbbi_builtin.specs.Compiling.{CompilesOver, HasFaultOver};
+ghost use Rattle.rbbi_builtin.specs.Filling.{AddsBuiltIn};
+
+use crate::fill::add_asked_for;
+use rbbi_compile::{CompileErr, compile};
+use rbbi_props::PropTable;
+use rbbi_table::Table;
+use std::alloc::Global;
+
+/// The least table of the rules that a text means, with these property files and, for a property
+/// for whose name there is none, what is built in. Where `ignored` holds, `$dictionary` is a
+/// variable like others.
+///
+/// The text has at most 100,663,296 bytes. Refuses the first fault of the text, or want of memory.
+/// The files are as before.
+pub fn compile_over(
+    alloc: Global,
+    text: &str,
+    files: &mut PropTable,
+    ignored: bool,
+) -> Result<Table, CompileErr>
+    requires { length text.now ≤ most_bytes }
+    ensures table { IfOk result (CompilesOver files.old ignored (chars text.now)) }
+    ensures refused { IfErr result (λ e. (e ≡ CompileErr.Memory)
+        ⊎ HasFaultOver files.old ignored (chars text.now) e) }
+    ensures same { files.new ≡ files.old }
+{
+    let given = files.len();
+    let table = filled_table(alloc, text, files, ignored);
+    files.truncate(given);
+    table
+}
+
+/// The same, with what was added left behind the files.
+fn filled_table(
+    alloc: Global,
+    text: &str,
+    files: &mut PropTable,
+    ignored: bool,
+) -> Result<Table, CompileErr>
+    requires { length text.now ≤ most_bytes }
+    ensures table { IfOk result (CompilesOver files.old ignored (chars text.now)) }
+    ensures refused { IfErr result (λ e. (e ≡ CompileErr.Memory)
+        ⊎ HasFaultOver files.old ignored (chars text.now) e) }
+    ensures behind { AddsBuiltIn files.old files.new }
+{
+    if add_asked_for(alloc, text, files).is_err() {
+        return Err(CompileErr::Memory);
+    }
+    compile(alloc, text, files, ignored)
+}
