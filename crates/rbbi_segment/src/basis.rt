@@ -51,11 +51,11 @@ fn compiled<F: Files, R: Read, L: Ledger>(
     steps: &mut Steps<L>,
 ) -> Result<Table, Failure> {
     let given = request.properties.as_slice();
-    let properties = properties_of(alloc, given, colors, files, input, steps)?;
+    let mut properties = properties_of(alloc, given, colors, files, input, steps)?;
     let rules = read(alloc, name, RULES_LIMIT, colors, files, input)?;
     let bytes = rules.bytes(steps);
     let ignored = request.ignore_dictionary;
-    table_of_rules(alloc, name, bytes, &properties, ignored, colors)
+    table_of_rules(alloc, name, bytes, &mut properties, ignored, colors)
 }
 
 /// The table that the bytes of a table file of this name spell.

@@ -5,6 +5,8 @@ use crate::escapes::{append_name, append_plain, is_hidden};
 use crate::failure::{Failure, HAS_FAULT};
 use crate::fault_texts::{syntax_help, text_of};
 use crate::source::{Position, position_of};
+use crate::unknown::{append_advice, cause_of};
+use rbbi_builtin::Advice;
 use rbbi_text::{append, append_number};
 use std::alloc::{AllocError, Global};
 use unicode_width::UnicodeWidthChar;
@@ -99,8 +101,25 @@ fn append_shown(
     colors.append(Color::Fault, b"^", out)
 }
 
-/// Appends what is told of a fault at a place of a rule file.
+/// Appends where a fault stands in a rule file, and what it is.
 fn append_at(
+    source: &Source<'_>,
+    position: &Position<'_>,
+    label: &str,
+    cause: &str,
+    out: &mut Vec<u8>,
+) -> Result<(), AllocError> {
+    append_name(source.name, out)?;
+    append(b":", out)?;
+    append_number(position.row, out)?;
+    append(b":", out)?;
+    append_number(position.column, out)?;
+    append_cause(label, cause, source.colors, out)?;
+    append_shown(position, source.colors, out)
+}
+
+/// Appends what is told of a fault at a place of a rule file.
+fn append_fault(
     source: &Source<'_>,
     label: &str,
     place: u32,
@@ -108,19 +127,28 @@ fn append_at(
 ) -> Result<(), AllocError> {
     let position = position_of(source.text, place);
     let text = text_of(label);
-    append_name(source.name, out)?;
-    append(b":", out)?;
-    append_number(position.row, out)?;
-    append(b":", out)?;
-    append_number(position.column, out)?;
-    append_cause(label, text.cause, source.colors, out)?;
-    append_shown(&position, source.colors, out)?;
+    append_at(source, &position, label, text.cause, out)?;
     let help = if label == "Syntax" {
         syntax_help(position.found)
     } else {
         text.help
     };
     append_help(help, out)
+}
+
+/// Appends what is told of a property at a place of a rule file that isn't found.
+fn append_unknown(
+    source: &Source<'_>,
+    place: u32,
+    advice: &Advice,
+    out: &mut Vec<u8>,
+) -> Result<(), AllocError> {
+    let position = position_of(source.text, place);
+    let cause = cause_of(advice.unknown);
+    append_at(source, &position, "UnknownProperty", cause, out)?;
+    append(b"\n", out)?;
+    append_advice(advice, out)?;
+    append(b"\n", out)
 }
 
 /// Appends what is told of a fault of a file.
@@ -148,7 +176,21 @@ fn append_of(
 /// The failure that a rule file has a fault of this label at a place, in characters from 0.
 pub(crate) fn fault_at(alloc: Global, source: &Source<'_>, label: &str, place: u32) -> Failure {
     let mut message = Vec::new(alloc);
-    match append_at(source, label, place, &mut message) {
+    match append_fault(source, label, place, &mut message) {
+        Ok(()) => Failure::Told(HAS_FAULT, message),
+        Err(_) => Failure::Memory,
+    }
+}
+
+/// The failure that a property at a place of a rule file isn't found.
+pub(crate) fn unknown_at(
+    alloc: Global,
+    source: &Source<'_>,
+    place: u32,
+    advice: &Advice,
+) -> Failure {
+    let mut message = Vec::new(alloc);
+    match append_unknown(source, place, advice, &mut message) {
         Ok(()) => Failure::Told(HAS_FAULT, message),
         Err(_) => Failure::Memory,
     }

@@ -22,6 +22,7 @@ mod rules;
 mod segments;
 mod source;
 mod tally;
+mod unknown;
 
 pub use colors::Surroundings;
 pub use program::segment;

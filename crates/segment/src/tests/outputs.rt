@@ -11,10 +11,29 @@ pub(crate) const FILES: &[(&str, &[u8])] = &[
     ("u", b"x\xF0\x9F\x98\x80\xC3\xA9\n"),
     ("h", b"\x1B\xE2\x80\xAE\xC2\x85\t\r"),
     ("e", b""),
+    ("w", b"\\p{Word_Break=KA}+ {9}; \\p{lb = op} {8};"),
+    ("k", b"30CA ; KA"),
+    ("j", b"\xE3\x82\xAB\xE3\x83\x8A(a"),
 ];
 
 /// The line breaks of the sentence, by UAX #14, and its sentences and words, by UAX #29.
 pub(crate) const ROWS: &[Row] = &[
+    // A katakana letter has the value KA of Word_Break, and a parenthesis OP of Line_Break.
+    (
+        "--rules~w~j",
+        b"",
+        0,
+        "0 2 9 \"\u{30AB}\u{30CA}\"\n2 3 8 \"(\"\n3 4 0 \"a\"\n",
+        "",
+    ),
+    // A file goes first, also if it has no such value.
+    (
+        "--rules~w~--prop~Word-Break=k~j",
+        b"",
+        0,
+        "0 1 0 \"\u{30AB}\"\n1 2 9 \"\u{30CA}\"\n2 3 8 \"(\"\n3 4 0 \"a\"\n",
+        "",
+    ),
     // The largest status of a boundary counts.
     (
         "--rules~r~--ignore-dictionary~t",

@@ -13,9 +13,51 @@ pub(crate) const FILES: &[(&str, &[u8])] = &[
     ("a", b"a;"),
     ("dictionary", b"$dictionary = [a]; a;"),
     ("table", b"RBBITBL\x02"),
+    ("value", b"\\p{Word_Break=Katakanna};"),
+    ("scx", b"a; [\\p{scx=Latn}];"),
+    ("given", b"\\p{R=B};"),
+    ("alone", b"\\p{lb};"),
+    ("row", b"0061 ; A"),
 ];
 
 pub(crate) const ROWS: &[Row] = &[
+    (
+        "--check~value",
+        b"",
+        1,
+        "",
+        "value:1:1: error: UnknownProperty: the property has no such value\n\
+         \\p{Word_Break=Katakanna};\n^\n\
+         Did you mean Katakana? Write \\p{Word_Break=VALUE} with a value of Unicode 18.0.\n",
+    ),
+    (
+        "--rules~scx~a",
+        b"",
+        1,
+        "",
+        "scx:1:5: error: UnknownProperty: there is no such property\n\
+         a; [\\p{scx=Latn}];\n    ^\n\
+         Did you mean sc? Properties with values are gc, sc, GCB, WB, SB, lb, ea, InCB and \
+         ExtPict, and not scx (Script_Extensions); for another give --prop NAME=FILE.\n",
+    ),
+    (
+        "--check~given~--prop~r=row",
+        b"",
+        1,
+        "",
+        "given:1:1: error: UnknownProperty: the file of this property has no such value\n\
+         \\p{R=B};\n^\n\
+         Spell the value as the file does.\n",
+    ),
+    (
+        "--check~alone",
+        b"",
+        1,
+        "",
+        "alone:1:1: error: UnknownProperty: the value of this property is missing\n\
+         \\p{lb};\n^\n\
+         Write \\p{Line_Break=VALUE} with a value of Unicode 18.0.\n",
+    ),
     // A wide character takes two columns, and a tab stays one.
     (
         "--check~syntax",
