@@ -12,7 +12,7 @@ use Rattle.rbbi_model.specs.Scripts.{Command, Ask, Replace, ShowText, State, ope
 use Rattle.rbbi_model.specs.Plays.{table_turn}
 use Rattle.rbbi_model.specs.Units.{offset_of}
 use Rattle.rbbi_model.specs.Lines.{reply_lines, all_reply_lines}
-use Rattle.rbbi_model.specs.Costs.{repeats, is_unkept, charge_by, costs_by, command_cost, script_cost}
+use Rattle.rbbi_model.specs.Costs.{is_same_question, repeats, is_unkept, charge_by, costs_by, command_cost, script_cost}
 use Rattle.rbbi_text.specs.Steps.{RisesUpTo}
 use Rattle.rbbi_session.specs.Walks.{View, kind_of, turn_of, turn_in, cost_in, charge_in, costs_in, IsAsked, Recall}
 use Rattle.rbbi_session.specs.UnitSessions.{UnitSession, IsOpenedBy}
@@ -46,15 +46,21 @@ module _ {A Setting : Type 0} (view : View A Setting) where
 
   module _ (recall : Recall view) (session new : A) (here steps : ℕ) where
     -- a question that is repeated reads nothing
+    asked_again : {T E : Type 0} (earlier question : Question) (r : Result T E) → (kind_of view session).recalls ≡ true →
+        IsAfter (Some (Ask earlier)) session → is_same_question earlier question ≡ true →
+        is_unkept (Ask question) (turn_of view session (Ask question)).reply ≡ false → Reads view session (Ask question) r new here steps → steps ≡ here
+    asked_again (Following a) (Following b) r recalls was same kept reads =
+        recall was.0 session new (Following a) (Following b) was.1 was.2 here steps recalls was.3 reads same kept
+    asked_again (Preceding a) (Preceding b) r recalls was same kept reads =
+        recall was.0 session new (Preceding a) (Preceding b) was.1 was.2 here steps recalls was.3 reads same kept
+    asked_again (IsBoundary a) (IsBoundary b) r recalls was same kept reads =
+        recall was.0 session new (IsBoundary a) (IsBoundary b) was.1 was.2 here steps recalls was.3 reads same kept
+    asked_again earlier question r recalls was same kept reads = absurd (false≢true same)
+
     reads_nothing : {T E : Type 0} (former : Option Command) (command : Command) (r : Result T E) → (kind_of view session).recalls ≡ true →
         IsAfter former session → repeats former command ≡ true → is_unkept command (turn_of view session command).reply ≡ false →
         Reads view session command r new here steps → steps ≡ here
-    reads_nothing (Some (Ask (Following a))) (Ask (Following b)) r recalls was again kept reads =
-        recall was.0 session new (Following a) (Following b) was.1 was.2 here steps recalls was.3 reads again kept
-    reads_nothing (Some (Ask (Preceding a))) (Ask (Preceding b)) r recalls was again kept reads =
-        recall was.0 session new (Preceding a) (Preceding b) was.1 was.2 here steps recalls was.3 reads again kept
-    reads_nothing (Some (Ask (IsBoundary a))) (Ask (IsBoundary b)) r recalls was again kept reads =
-        recall was.0 session new (IsBoundary a) (IsBoundary b) was.1 was.2 here steps recalls was.3 reads again kept
+    reads_nothing (Some (Ask earlier)) (Ask question) r recalls was again kept reads = asked_again earlier question r recalls was again kept reads
     reads_nothing former command r recalls was again kept reads = absurd (false≢true again)
 
     both_hold : (a b : Bool) → (a && not b) ≡ true → (a ≡ true) × (b ≡ false)

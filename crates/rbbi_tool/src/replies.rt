@@ -161,11 +161,38 @@ pub(crate) fn put_replies<K: Sink, L: Ledger>(
 {
     match filter {
         None => put_unit_replies(alloc, table, text, unit, commands, out, steps),
-        Some(Filter::Suppressing(list)) => {
+        Some(filter) => put_replies_through(alloc, table, text, filter, commands, out, steps),
+    }
+}
+
+/// Puts the lines of the replies to all commands over a text, by the boundaries by a table that are
+/// reported through a filter, in pieces.
+fn put_replies_through<K: Sink, L: Ledger>(
+    alloc: Global,
+    table: &Table,
+    text: Pieces,
+    filter: &Filter,
+    commands: &Commands,
+    out: &mut K,
+    steps: &mut Steps<L>,
+) -> Result<(), WriteErr>
+    ensures ok { OnOk result (Takes (K.taken out.old) (K.taken out.new)
+        (all_reply_lines (replies_in (filter_kind filter.now table.now) (opened text)
+        (map meaning commands.now)))) }
+    ensures err { OnErr result (TakesFront (K.taken out.old) (K.taken out.new)
+        (all_reply_lines (replies_in (filter_kind filter.now table.now) (opened text)
+        (map meaning commands.now)))) }
+    ensures faults { GoesOn (K.faults out.old) (K.faults out.new) }
+    ensures failed { IsErrOf result Failed → Rose (K.faults out.old) (K.faults out.new) }
+    ensures steps { RisesUpTo (costs_in (filter_kind filter.now table.now) (opened text) None
+        (map meaning commands.now)) steps.old steps.new }
+{
+    match filter {
+        Filter::Suppressing(list) => {
             let keep = |w: &[char]| list.ends(w);
             put_filtered_replies(alloc, table, text, list, keep, commands, out, steps)
         }
-        Some(Filter::Turning(pairs)) => {
+        Filter::Turning(pairs) => {
             let turning = |c: char| pairs.turn(c);
             put_tailored_replies(alloc, table, text, pairs, turning, commands, out, steps)
         }

@@ -1,10 +1,9 @@
 use Rattle.std.proofs.Common.{◌≡◌, sym, subst, map}
-use Rattle.std.specs.Prelude.{Some, None, OnOk, OnErr}
+use Rattle.std.specs.Prelude.{None, OnOk, OnErr}
 use Rattle.rbbi_model.specs.Scripts.{opened}
 use Rattle.rbbi_model.specs.Lines.{all_reply_lines}
 use Rattle.rbbi_script.specs.Meaning.{meaning}
 use Rattle.rbbi_script.specs.Performing.{replies_in}
-use Rattle.rbbi_filter.specs.declared.filter.Filter.TheVariants.{Suppressing, Turning}
 use Rattle.rbbi_io.specs.Sinks.{Takes, TakesFront}
 use Rattle.rbbi_tool.specs.Filters.{kind_in}
 use Rattle.rbbi_tool.proofs.replies.put_replies.Goals as goal
@@ -23,16 +22,14 @@ returns-in-None-clause-err g c =
     (all_reply_lines (replies_in (kind_in f c.args.unit c.args.table.now) (opened c.args.text) (map meaning c.args.commands.now)))))
     (sym is) c.put_unit_replies.ensures.err
 
-pub returns-in-Some-Suppressing-clause-err : goal.returns-in-Some-Suppressing-clause-err
-returns-in-Some-Suppressing-clause-err g c =
-    let is : c.args.filter.now ≡ Some (Suppressing c.in-Some-Suppressing.list.now) = cc (c.in-Some-Suppressing.is, c.in-Some-Suppressing.field-0-is, c.in-Some-Suppressing.list-is) in
-    subst (λ f. OnErr c.put_filtered_replies.result (TakesFront (g.K.Sink.taken c.args.out.now) (g.K.Sink.taken c.put_filtered_replies.new.out)
+pub returns-in-Some-clause-ok : goal.returns-in-Some-clause-ok
+returns-in-Some-clause-ok g c =
+    subst (λ f. OnOk c.put_replies_through.result (Takes (g.K.Sink.taken c.args.out.now) (g.K.Sink.taken c.put_replies_through.new.out)
     (all_reply_lines (replies_in (kind_in f c.args.unit c.args.table.now) (opened c.args.text) (map meaning c.args.commands.now)))))
-    (sym is) c.put_filtered_replies.ensures.err
+    (sym c.in-Some.is) c.put_replies_through.ensures.ok
 
-pub returns-in-Some-Turning-clause-err : goal.returns-in-Some-Turning-clause-err
-returns-in-Some-Turning-clause-err g c =
-    let is : c.args.filter.now ≡ Some (Turning c.in-Some-Turning.pairs.now) = cc (c.in-Some-Turning.is, c.in-Some-Turning.field-0-is, c.in-Some-Turning.pairs-is) in
-    subst (λ f. OnErr c.put_tailored_replies.result (TakesFront (g.K.Sink.taken c.args.out.now) (g.K.Sink.taken c.put_tailored_replies.new.out)
+pub returns-in-Some-clause-err : goal.returns-in-Some-clause-err
+returns-in-Some-clause-err g c =
+    subst (λ f. OnErr c.put_replies_through.result (TakesFront (g.K.Sink.taken c.args.out.now) (g.K.Sink.taken c.put_replies_through.new.out)
     (all_reply_lines (replies_in (kind_in f c.args.unit c.args.table.now) (opened c.args.text) (map meaning c.args.commands.now)))))
-    (sym is) c.put_tailored_replies.ensures.err
+    (sym c.in-Some.is) c.put_replies_through.ensures.err
