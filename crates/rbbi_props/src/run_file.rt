@@ -76,11 +76,7 @@ fn is_loosely(other: &str, name: &str) -> bool
 }
 
 /// For each run a row under each name of its value.
-fn rows_of_runs(
-    alloc: Global,
-    runs: &[u32],
-    values: &[&str],
-) -> Result<Vec<PropRow>, AllocError>
+fn rows_of_runs(alloc: Global, runs: &[u32], values: &[&str]) -> Result<Vec<PropRow>, AllocError>
     requires { IsPartition runs.now }
     ensures { IfOk result (λ rows.
         AreRowsOf runs.now (map (λ names. names.now) values.now) rows.items) }

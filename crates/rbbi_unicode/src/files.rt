@@ -35,10 +35,18 @@ pub fn files() -> [PropertyFile; 9] {
         },
         file("DerivedGeneralCategory.txt", Property::GeneralCategory, ""),
         file("EastAsianWidth.txt", Property::EastAsianWidth, ""),
-        file("GraphemeBreakProperty.txt", Property::GraphemeClusterBreak, "Other"),
+        file(
+            "GraphemeBreakProperty.txt",
+            Property::GraphemeClusterBreak,
+            "Other",
+        ),
         file("LineBreak.txt", Property::LineBreak, ""),
         file("Scripts.txt", Property::Script, "Unknown"),
-        file("SentenceBreakProperty.txt", Property::SentenceBreak, "Other"),
+        file(
+            "SentenceBreakProperty.txt",
+            Property::SentenceBreak,
+            "Other",
+        ),
         file("WordBreakProperty.txt", Property::WordBreak, "Other"),
         file("emoji-data.txt", Property::EmojiData, "No"),
     ]
