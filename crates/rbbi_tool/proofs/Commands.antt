@@ -49,9 +49,9 @@ command_told Compile request inputs outcome is count (rules, passed, told) =
 command_told Upgrade request inputs outcome is count (table, passed, told) =
     told_of request outcome _ told
     (record { status = omega arith; file = second_is_written request (Read Table) (ap (λ c. operands_of c request.options.by_table) is) count })
-command_told Same request inputs outcome is count (u, passed, (rules, mean, (others, mean', inl (agree, told)))) =
+command_told Same request inputs outcome is count (rules, mean, (others, mean', inl (agree, told))) =
     told_of request outcome _ told (record { status = omega arith; file = tt })
-command_told Same request inputs outcome is count (u, passed, (rules, mean, (others, mean', inr (w, differ, told)))) =
+command_told Same request inputs outcome is count (rules, mean, (others, mean', inr (w, differ, told))) =
     told_of request outcome _ told (record { status = omega arith; file = tt })
 command_told Breaks request inputs outcome is count (by, passed, (x, taken, (boundaries, are, told))) =
     told_of request outcome _ told (record { status = omega arith; file = tt })

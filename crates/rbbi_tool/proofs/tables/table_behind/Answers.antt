@@ -13,5 +13,5 @@ returns-clause-table g c =
     let options = options_in c.args.options.now in
     let inputs = inputs_in c.args.inputs.now in
     compiled_serves options inputs c.requires.passed c.args.options.now.by_table c.table_of_rules.result c.if-options.false
-    (read_serves options inputs c.requires.passed c.args.props.now c.bytes.result.now c.table_of_rules.result c.requires.files c.bytes.ensures.bytes
+    (read_serves options inputs c.requires.passed c.args.props.now c.bytes-2.result.now c.table_of_rules.result c.requires.files c.bytes-2.ensures.bytes
     c.table_of_rules.ensures)

@@ -21,7 +21,7 @@ returns-in_err-table g c =
 pub canonical-requires : goal.canonical-requires
 canonical-requires g c =
     let served = c.in_ok-table.ensures in
-    c.compiled_tables_have_canonical.ensures served.0 c.in_ok-table.table served.1.2.lawful served.2
+    c.compiled_tables_have_canonical.ensures c.in_ok-table.table served.0 served.1.2.lawful served.2
 
 pub returns-in_err-canonical : goal.returns-in_err-canonical
 returns-in_err-canonical g c =
