@@ -1,3 +1,4 @@
 pub mod Buffered
+pub mod Carried
 pub mod Handed
 pub mod Written

@@ -4,9 +4,10 @@ use crate::colors::When;
 use crate::escapes::append_name;
 use crate::failure::{Failure, IS_REFUSED};
 use crate::only::Statuses;
-use crate::options::{Basis, Format, Kind, Property, Request, Task};
+use crate::options::{Basis, Format, Property, Request, Task};
 use clap::error::ErrorKind;
 use clap::{Arg, ArgAction, ArgMatches, Command, Error};
+use rbbi_segment_tables::Kind;
 use rbbi_text::{Unit, append};
 use std::alloc::{AllocError, Global};
 

@@ -1,6 +1,7 @@
 //! The table that a request names: a built-in one, or that of a table file or a rule file.
+ghost use Rattle.std.specs.Prelude.{IfOk};
+ghost use Rattle.rbbi_segment.specs.Annexes.{IsTableOf};
 
-use crate::built_in::table_bytes;
 use crate::colors::Colors;
 use crate::failure::{Failure, IS_REFUSED};
 use crate::faults::{Place, fault_of};
@@ -10,6 +11,7 @@ use crate::rules::table_of_rules;
 use rbbi_file::{FileErr, read_table};
 use rbbi_io::Files;
 use rbbi_props::{PropErr, PropTable};
+use rbbi_segment_tables::built_in;
 use rbbi_table::Table;
 use rbbi_text::{MOST_BYTES, Steps};
 use std::alloc::Global;
@@ -85,9 +87,11 @@ pub(crate) fn table_of<F: Files, R: Read, L: Ledger>(
     files: &mut F,
     input: &mut R,
     steps: &mut Steps<L>,
-) -> Result<Table, Failure> {
+) -> Result<Table, Failure>
+    ensures { IfOk result (IsTableOf request.now.basis files.old files.new) }
+{
     match request.basis {
-        Basis::BuiltIn(kind) => spelled(alloc, "the built-in table", table_bytes(kind), colors),
+        Basis::BuiltIn(kind) => Ok(built_in(alloc, kind)?),
         Basis::Rules(name) => compiled(alloc, name, request, colors, files, input, steps),
         Basis::Table(name) => {
             let bytes = read(alloc, name, TABLE_LIMIT, colors, files, input)?;

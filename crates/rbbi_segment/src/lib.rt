@@ -6,7 +6,6 @@
 
 mod arguments;
 mod basis;
-mod built_in;
 mod colors;
 mod escapes;
 mod failure;

@@ -2,16 +2,8 @@
 
 use crate::colors::When;
 use crate::only::Statuses;
+use rbbi_segment_tables::Kind;
 use rbbi_text::Unit;
-
-/// What the built-in tables break a text into.
-#[derive(Clone, Copy, PartialEq, Eq)]
-pub(crate) enum Kind {
-    Grapheme,
-    Word,
-    Sentence,
-    Line,
-}
 
 /// Where the table comes from.
 #[derive(Clone, Copy)]
