@@ -1,9 +1,29 @@
--- The table of a built-in kind.
-use Rattle.std.specs.Prelude.{◌≡◌}
+-- What a run with a built-in table puts.
+use Rattle.std.specs.Prelude.{◌≡◌, ◌≢◌, ℕ, List, Option, IfSome, chars, codes}
 use Rattle.rbbi_model.specs.Tables.{Table}
-use Rattle.rbbi_segment_tables.specs.Annexes.{GivesAnnex}
+use Rattle.rbbi_io.specs.Sinks.{Takes}
+use Rattle.rbbi_segment_tables.specs.Annexes.{annex_boundaries, GivesAnnex}
+use Rattle.rbbi_segment_tables.specs.declared.loading.Kind.{Kind}
+use Rattle.rbbi_segment.specs.declared.colors.Colors.{Colors}
 use Rattle.rbbi_segment.specs.declared.options.Basis.{Basis}
 use Rattle.rbbi_segment.specs.declared.options.Basis.TheVariants.{BuiltIn, Rules, Table as OfFile}
+use Rattle.rbbi_segment.specs.declared.options.Request.{Request}
+use Rattle.rbbi_segment.specs.Segments.{segments_between}
+use Rattle.rbbi_segment.specs.Lines.{lines_in}
+
+-- The file of this name holds the bytes, if the files tell what they hold. Of the standard input, `-`, nothing is told.
+abbrev pub IsHeld : Option (List ℕ → List ℕ) → List ℕ → List ℕ → Type 0
+IsHeld contents name bytes = name ≢ codes "-" → IfSome contents (λ held. bytes ≡ held name)
+
+-- the text is that of the bytes which the file of this name holds
+abbrev pub IsTextOf : Option (List ℕ → List ℕ) → List ℕ → List ℕ → Type 0
+IsTextOf contents name x = (bytes : List ℕ) × IsHeld contents name bytes × (x ≡ chars bytes)
+
+-- A sink took the lines of the segments of the text by UAX #29, in a format that has lines.
+abbrev pub TakesAnnex : Kind → Request → Colors → List ℕ → Option (List ℕ) → Option (List ℕ) → Type 0
+TakesAnnex kind request colors x before now =
+    IfSome (annex_boundaries kind x)
+    (λ boundaries. IfSome (lines_in request.format request.only colors x (segments_between request.unit x boundaries)) (Takes before now))
 
 -- The table of a built-in kind gives the boundaries of UAX #29, and no file was read for it.
 abbrev pub IsTableOf : {F : Type 0} → Basis → F → F → Table → Type 0

@@ -1,6 +1,9 @@
 //! A run of the program.
-ghost use Rattle.std.specs.Prelude.{IfSome, OnOk};
+ghost use Rattle.std.specs.Prelude.{ℕ, List, IfSome, OnOk};
 ghost use Rattle.rbbi_io.specs.Sinks.{Takes};
+ghost use Rattle.rbbi_segment_tables.specs.Annexes.{GivesAnnex};
+ghost use Rattle.rbbi_segment_tables.specs.declared.loading.Kind.{Kind};
+ghost use Rattle.rbbi_segment.specs.Annexes.{IsTextOf, TakesAnnex};
 ghost use Rattle.rbbi_segment.specs.Lines.{lines, lines_in};
 ghost use Rattle.rbbi_segment.specs.Segments.{segments};
 
@@ -101,7 +104,11 @@ fn segment_text<F: Files, R: Read, K: Sink, L: Ledger>(
     input: &mut R,
     out: &mut K,
     steps: &mut Steps<L>,
-) -> Result<(), Failure> {
+) -> Result<(), Failure>
+    ensures { (kind : Kind) → GivesAnnex kind table.now → OnOk result ((x : List ℕ)
+        × IsTextOf (F.contents files.old) name.now x
+        × TakesAnnex kind request.now colors x (K.taken out.old) (K.taken out.new)) }
+{
     let text = read_text(alloc, name, faults, files, input)?;
     put_segments(alloc, request, table, &text, colors, out, steps)?;
     Ok(())

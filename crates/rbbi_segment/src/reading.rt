@@ -1,6 +1,8 @@
 //! From names to what the files hold.
 ghost use Rattle.std.specs.Prelude.{◌≤◌, length, IfOk};
+ghost use Rattle.rbbi_model.specs.Words.{IsText};
 ghost use Rattle.rbbi_text.specs.Bytes.{most_bytes};
+ghost use Rattle.rbbi_segment.specs.Annexes.{IsHeld, IsTextOf};
 
 use crate::colors::Colors;
 use crate::failure::{Failure, IS_REFUSED};
@@ -23,6 +25,24 @@ pub(crate) const TABLE_LIMIT: u64 = 100_663_296;
 const TEXT_LIMIT: u64 = 67_108_864;
 
 /// All bytes of the file of this name, at most `limit`, or of the standard input if it is `-`.
+fn bytes_of<F: Files, R: Read>(
+    alloc: Global,
+    name: &str,
+    limit: u64,
+    files: &mut F,
+    input: &mut R,
+) -> Result<Raw, ReadErr>
+    ensures within { IfOk result (λ bytes. length bytes ≤ limit) }
+    ensures held { IfOk result (IsHeld (F.contents files.old) name.now) }
+{
+    if name == "-" {
+        read_at_most(alloc, input, limit)
+    } else {
+        files.read(alloc, name, limit)
+    }
+}
+
+/// The same, with what is told where they can't be read.
 pub(crate) fn read<F: Files, R: Read>(
     alloc: Global,
     name: &str,
@@ -31,14 +51,10 @@ pub(crate) fn read<F: Files, R: Read>(
     files: &mut F,
     input: &mut R,
 ) -> Result<Raw, Failure>
-    ensures { IfOk result (λ bytes. length bytes ≤ limit) }
+    ensures within { IfOk result (λ bytes. length bytes ≤ limit) }
+    ensures held { IfOk result (IsHeld (F.contents files.old) name.now) }
 {
-    let bytes = if name == "-" {
-        read_at_most(alloc, input, limit)
-    } else {
-        files.read(alloc, name, limit)
-    };
-    let label = match bytes {
+    let label = match bytes_of(alloc, name, limit, files, input) {
         Ok(bytes) => return Ok(bytes),
         Err(ReadErr::Failed) => "Unreadable",
         Err(ReadErr::TooLong) => "TooLong",
@@ -47,14 +63,16 @@ pub(crate) fn read<F: Files, R: Read>(
     Err(fault_of(alloc, IS_REFUSED, name, label, Place::Whole, colors))
 }
 
-/// The text of a file.
+/// The text of a file, or of the standard input.
 pub(crate) fn read_text<F: Files, R: Read>(
     alloc: Global,
     name: &str,
     colors: Colors,
     files: &mut F,
     input: &mut R,
-) -> Result<PlainText, Failure> {
+) -> Result<PlainText, Failure>
+    ensures { IfOk result (λ x. IsText x × IsTextOf (F.contents files.old) name.now x) }
+{
     let bytes = read(alloc, name, TEXT_LIMIT, colors, files, input)?;
     let (label, place) = match PlainText::from_raw(alloc, &bytes) {
         Ok(text) => return Ok(text),
