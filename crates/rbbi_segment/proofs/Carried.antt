@@ -1,6 +1,7 @@
 -- What is put of the segments by a table that gives the boundaries of UAX #29 is put of those by the annex.
 use Rattle.std.proofs.Common.{◌≡◌, List, ℕ, Option, subst}
-use Rattle.std.specs.Prelude.{Result, Ok, Err, IfOk, IfSome}
+use Rattle.std.specs.Prelude.{Result, Ok, Err, OnOk, IfOk, IfSome}
+use Rattle.std.specs.Borrow.{Bor}
 use Rattle.std.proofs.lemmas.Option.{IfSome_then}
 use Rattle.rbbi_model.specs.Words.{IsText}
 use Rattle.rbbi_model.specs.Boundaries.{Boundary}
@@ -10,8 +11,11 @@ use Rattle.rbbi_io.specs.Sinks.{Takes}
 use Rattle.rbbi_segment_tables.specs.Annexes.{annex_boundaries, GivesAnnex}
 use Rattle.rbbi_segment_tables.specs.declared.loading.Kind.{Kind}
 use Rattle.rbbi_segment.specs.declared.colors.Colors.{Colors}
+use Rattle.rbbi_segment.specs.declared.options.Basis.{Basis}
+use Rattle.rbbi_segment.specs.declared.options.Basis.TheVariants.{BuiltIn, Rules, Table as OfFile}
 use Rattle.rbbi_segment.specs.declared.options.Request.{Request}
-use Rattle.rbbi_segment.specs.Annexes.{TakesAnnex}
+use Rattle.rbbi_segment.specs.declared.options.Task.TheVariants.{Segment}
+use Rattle.rbbi_segment.specs.Annexes.{IsTextOf, TakesAnnex, IsTableOf, TakesLinesOf}
 use Rattle.rbbi_segment.specs.Lines.{lines_in}
 use Rattle.rbbi_segment.specs.Segments.{segments, segments_between}
 
@@ -28,3 +32,15 @@ annex_taken kind table request colors x before now gives is taken =
 pub of_file : {T E : Type 0} (r : Result T E) → IfOk r (λ _. Unit {0})
 of_file (Ok value) = tt
 of_file (Err e) = tt
+
+-- what is put of the text that the task names, by the table of the basis
+pub of_basis : {T E F : Type 0} (contents : F → Option (List ℕ → List ℕ)) (old new : F) (table : Table) (request : Request) (colors : Colors)
+    (before now : Option (List ℕ)) (name : Bor (List ℕ)) (basis : Basis) (r : Result T E) → IsTableOf basis old new table →
+    ((kind : Kind) → GivesAnnex kind table →
+    OnOk r ((x : List ℕ) × IsTextOf (contents new) name.now x × TakesAnnex kind request colors x before now)) →
+    OnOk r (TakesLinesOf request colors (contents old) before now (Segment name) basis)
+of_basis contents old new table request colors before now name basis (Err e) is puts = tt
+of_basis contents old new table request colors before now name (BuiltIn kind) (Ok value) is puts =
+    subst (λ files. (x : List ℕ) × IsTextOf (contents files) name.now x × TakesAnnex kind request colors x before now) is.1 (puts kind is.0)
+of_basis contents old new table request colors before now name (Rules file) (Ok value) is puts = tt
+of_basis contents old new table request colors before now name (OfFile file) (Ok value) is puts = tt

@@ -8,6 +8,8 @@ use Rattle.rbbi_segment.specs.declared.colors.Colors.{Colors}
 use Rattle.rbbi_segment.specs.declared.options.Basis.{Basis}
 use Rattle.rbbi_segment.specs.declared.options.Basis.TheVariants.{BuiltIn, Rules, Table as OfFile}
 use Rattle.rbbi_segment.specs.declared.options.Request.{Request}
+use Rattle.rbbi_segment.specs.declared.options.Task.{Task}
+use Rattle.rbbi_segment.specs.declared.options.Task.TheVariants.{Check, Segment}
 use Rattle.rbbi_segment.specs.Segments.{segments_between}
 use Rattle.rbbi_segment.specs.Lines.{lines_in}
 
@@ -30,3 +32,9 @@ abbrev pub IsTableOf : {F : Type 0} → Basis → F → F → Table → Type 0
 IsTableOf (BuiltIn kind) old new table = GivesAnnex kind table × (new ≡ old)
 IsTableOf (Rules name) old new table = Unit {0}
 IsTableOf (OfFile name) old new table = Unit {0}
+
+-- With a built-in table a sink took these lines of the text that the task names.
+abbrev pub TakesLinesOf : Request → Colors → Option (List ℕ → List ℕ) → Option (List ℕ) → Option (List ℕ) → Task → Basis → Type 0
+TakesLinesOf request colors contents before now (Segment name) (BuiltIn kind) =
+    (x : List ℕ) × IsTextOf contents name.now x × TakesAnnex kind request colors x before now
+TakesLinesOf request colors contents before now _ _ = Unit {0}

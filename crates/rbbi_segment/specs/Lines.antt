@@ -1,11 +1,13 @@
 -- The line of a segment.
-use Rattle.std.specs.Prelude.{◌≡◌, ℕ, List, [], ◌∷◌, ◌++◌, Bool, true, false, Option, Some, None, if◌then◌else◌, ◌&&◌, nat_le, slice_range, codes}
+use Rattle.std.specs.Prelude.{◌≡◌, ℕ, List, [], ◌∷◌, ◌++◌, Bool, true, false, not, Option, Some, None, if◌then◌else◌, ◌&&◌, nat_le, slice_range, codes}
 use Rattle.std.specs.List.{flat_map}
 use Rattle.std.specs.Fmt.{decimal}
 use Rattle.rbbi_io.specs.Sinks.{IsBuffered}
 use Rattle.rbbi_segment.specs.declared.colors.Colors.{Colors}
 use Rattle.rbbi_segment.specs.declared.colors.Color.{Color}
 use Rattle.rbbi_segment.specs.declared.colors.Color.TheVariants.{Faint, Mark, Fault}
+use Rattle.rbbi_segment.specs.declared.colors.When.{When}
+use Rattle.rbbi_segment.specs.declared.colors.When.TheVariants.{Auto, Always, Never}
 use Rattle.rbbi_segment.specs.declared.escapes.Within.{Within}
 use Rattle.rbbi_segment.specs.declared.escapes.Within.TheVariants.{Quotes, Json as InJson}
 use Rattle.rbbi_segment.specs.declared.only.Statuses.{Statuses}
@@ -15,6 +17,12 @@ use Rattle.rbbi_segment.specs.declared.quoted.Style.{Style}
 use Rattle.rbbi_segment.specs.declared.quoted.Quoted.{Quoted}
 use Rattle.rbbi_segment.specs.declared.segments.Segment.{Segment}
 use Rattle.rbbi_segment.specs.Escapes.{shown}
+
+-- whether there are colours in what goes to a terminal, or not to one
+abbrev pub colors_for : When → Bool → Bool → Colors
+colors_for Auto is_terminal no_color = record { are_on = is_terminal && not no_color }
+colors_for Always is_terminal no_color = record { are_on = true }
+colors_for Never is_terminal no_color = record { are_on = false }
 
 -- what begins a colour, as a terminal reads it
 abbrev pub code_of : Color → List ℕ

@@ -1,6 +1,6 @@
 //! Colours of a terminal.
 ghost use Rattle.std.specs.Prelude.{◌≡◌, ◌++◌, OnOk};
-ghost use Rattle.rbbi_segment.specs.Lines.{color_begin, color_end};
+ghost use Rattle.rbbi_segment.specs.Lines.{color_begin, color_end, colors_for};
 
 use rbbi_text::append;
 use std::alloc::AllocError;
@@ -45,7 +45,9 @@ pub(crate) enum Color {
 
 impl Colors {
     /// The colours of what goes to a terminal, or not to one.
-    pub(crate) fn new(when: When, is_terminal: bool, no_color: bool) -> Colors {
+    pub(crate) fn new(when: When, is_terminal: bool, no_color: bool) -> Colors
+        ensures { result ≡ colors_for when is_terminal no_color }
+    {
         let are_on = match when {
             When::Auto => is_terminal && !no_color,
             When::Always => true,

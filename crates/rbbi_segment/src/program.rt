@@ -3,8 +3,8 @@ ghost use Rattle.std.specs.Prelude.{ℕ, List, IfSome, OnOk};
 ghost use Rattle.rbbi_io.specs.Sinks.{Takes};
 ghost use Rattle.rbbi_segment_tables.specs.Annexes.{GivesAnnex};
 ghost use Rattle.rbbi_segment_tables.specs.declared.loading.Kind.{Kind};
-ghost use Rattle.rbbi_segment.specs.Annexes.{IsTextOf, TakesAnnex};
-ghost use Rattle.rbbi_segment.specs.Lines.{lines, lines_in};
+ghost use Rattle.rbbi_segment.specs.Annexes.{IsTextOf, TakesAnnex, TakesLinesOf};
+ghost use Rattle.rbbi_segment.specs.Lines.{colors_for, lines, lines_in};
 ghost use Rattle.rbbi_segment.specs.Segments.{segments};
 
 use crate::arguments::request_of;
@@ -115,6 +115,9 @@ fn segment_text<F: Files, R: Read, K: Sink, L: Ledger>(
 }
 
 /// Does what a request asks for.
+///
+/// With the built-in table of graphemes, words or sentences, and in a format that has lines, it
+/// puts the lines of the segments of the text by UAX #29.
 fn perform<F: Files, R: Read, K: Sink, L: Ledger>(
     alloc: Global,
     request: &Request<'_>,
@@ -123,17 +126,21 @@ fn perform<F: Files, R: Read, K: Sink, L: Ledger>(
     input: &mut R,
     out: &mut K,
     steps: &mut Steps<L>,
-) -> Result<(), Failure> {
+) -> Result<(), Failure>
+    ensures { OnOk result (TakesLinesOf request.now (colors_for request.now.color
+        surroundings.output_is_terminal surroundings.no_color) (F.contents files.old)
+        (K.taken out.old) (K.taken out.new) request.now.task request.now.basis) }
+{
     let no_color = surroundings.no_color;
     let faults = Colors::new(request.color, surroundings.errors_are_on_terminal, no_color);
     let table = table_of(alloc, request, faults, files, input, steps)?;
-    let Task::Segment(name) = request.task else {
-        return Ok(());
-    };
     let colors = Colors::new(request.color, surroundings.output_is_terminal, no_color);
-    segment_text(
-        alloc, request, &table, name, faults, colors, files, input, out, steps,
-    )
+    match request.task {
+        Task::Check => Ok(()),
+        Task::Segment(name) => segment_text(
+            alloc, request, &table, name, faults, colors, files, input, out, steps,
+        ),
+    }
 }
 
 /// Puts a message as far as can be, and answers the status.

@@ -1,0 +1,25 @@
+use Rattle.std.proofs.Common.{Option, List, ℕ, sym, subst}
+use Rattle.std.specs.Prelude.{OnOk}
+use Rattle.rbbi_segment.specs.declared.colors.Colors.{Colors}
+use Rattle.rbbi_segment.specs.declared.options.Request.{Request}
+use Rattle.rbbi_segment.specs.declared.options.Task.{Task}
+use Rattle.rbbi_segment.specs.declared.options.Task.TheVariants.{Segment}
+use Rattle.rbbi_segment.specs.Annexes.{TakesLinesOf}
+use Rattle.rbbi_segment.proofs.Carried.{of_basis}
+use Rattle.rbbi_segment.proofs.program.perform.Goals as goal
+
+pub returns-in_Check : goal.returns-in_Check
+returns-in_Check g c = rw c.in-Check.is tt
+
+pub returns-in_Segment : goal.returns-in_Segment
+returns-in_Segment g c =
+    let request : Request = c.args.request.now in
+    let contents : Option (List ℕ → List ℕ) = g.F.Files.contents c.args.files.now in
+    let before : Option (List ℕ) = g.K.Sink.taken c.args.out.now in
+    let now : Option (List ℕ) = g.K.Sink.taken c.segment_text.new.out in
+    let Puts : Colors → Task → Type 0 =
+    λ colors task. OnOk c.segment_text.result (TakesLinesOf request colors contents before now task request.basis) in
+    subst (λ colors. Puts colors request.task) c.new-colors.ensures
+    (subst (Puts c.new-colors.result) (sym c.in-Segment.is)
+    (of_basis g.F.Files.contents c.args.files.now c.table_of.new.files c.in_ok-table.table request c.new-colors.result before now
+    c.in-Segment.name request.basis c.segment_text.result c.in_ok-table.ensures c.segment_text.ensures))
