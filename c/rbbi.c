@@ -1,11 +1,14 @@
 /*
  * The calls of include/rbbi.h over those that the crate rbbi_c exports.
  *
- * Contracts see a reference that C passes as one that isn't NULL. So what is tested here, and
- * nothing else, is that no pointer is NULL. A `Memory` takes no bytes, and is passed as nothing.
+ * Contracts see a reference that C passes as one that isn't NULL, and a handle as one that nobody else
+ * uses during the call. So what is done here, and nothing else: pointers that are NULL are refused,
+ * and threads that pass one table's handle take turns. A `Memory` takes no bytes, and is passed as
+ * nothing.
  */
 #include "rbbi.h"
 
+#include <pthread.h>
 #include <stdbool.h>
 #include <string.h>
 
@@ -72,6 +75,16 @@ const char *rbbi_message(int answer) {
         return "this is no answer of rbbi";
     }
     return messages[answer];
+}
+
+/* Makes `other` one more handle of the table. The proved side takes the table out of its handle for
+   this, and puts it back; meanwhile no other thread may look into the handle. */
+static int share(rbbi_table *table, rbbi_table *other) {
+    static pthread_mutex_t turn = PTHREAD_MUTEX_INITIALIZER;
+    pthread_mutex_lock(&turn);
+    uint32_t answer = rbbi_c_table_share(table, other);
+    pthread_mutex_unlock(&turn);
+    return (int)answer;
 }
 
 /* Passes a fault on as its name, ended by a zero, and its place. */
@@ -147,14 +160,20 @@ int rbbi_table_named(rbbi_table *table, const char *name) {
 }
 
 int rbbi_table_share(rbbi_table *other, rbbi_table *table) {
-    return other && table ? (int)rbbi_c_table_share(table, other) : RBBI_NULL;
+    return other && table ? share(table, other) : RBBI_NULL;
 }
 
 int rbbi_table_write(rbbi_table *table, void *room, size_t size, size_t *length) {
     if (!table || (!room && size) || !length) {
         return RBBI_NULL;
     }
-    return (int)rbbi_c_table_write(table, room ? room : (void *)nothing, size, length);
+    rbbi_table own = RBBI_INIT;
+    int answer = share(table, &own);
+    if (answer == RBBI_OK) {
+        answer = (int)rbbi_c_table_write(&own, room ? room : (void *)nothing, size, length);
+        rbbi_c_close(&own);
+    }
+    return answer;
 }
 
 void rbbi_table_close(rbbi_table *table) {
@@ -168,7 +187,13 @@ int rbbi_session_open(rbbi_session *session, rbbi_table *table, const char *text
     if (!session || !table || (!text && length)) {
         return RBBI_NULL;
     }
-    return (int)rbbi_c_open(table, from(text), length, (uint32_t)unit, session);
+    rbbi_table own = RBBI_INIT;
+    int answer = share(table, &own);
+    if (answer == RBBI_OK) {
+        answer = (int)rbbi_c_open(&own, from(text), length, (uint32_t)unit, session);
+        rbbi_c_close(&own);
+    }
+    return answer;
 }
 
 void rbbi_session_close(rbbi_session *session) {

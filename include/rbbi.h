@@ -18,10 +18,12 @@
  * names that you pass are copied or read within the call, and stay yours. Nothing that is handed to
  * you has to be freed, but for handles, which are closed.
  *
- * THREADS. Each call has to have the handles that it is passed to itself. So a session is used by one
- * thread at a time, and so is a table's handle: give each thread a handle of its own, by
- * rbbi_table_share, and all of them share one table in memory. Handles may move from thread to
- * thread, under a lock or over a start or join of a thread. There is no state but in handles.
+ * THREADS. Several threads may pass one table's handle to rbbi_table_share, rbbi_table_write and
+ * rbbi_session_open at once: nothing changes a table, and these calls take turns, under a lock that
+ * is the library's only state, just to count one more owner. Every other call has to have its handles
+ * to itself: one thread at a time uses a session or a list of property files, and no thread uses a
+ * handle while another opens or closes it. Sessions of one table may be used side by side. Handles may
+ * move from thread to thread, under a lock or over a start or join of a thread.
  *
  * UNITS. All places, numbers and lengths of a session count the unit that it was opened in: bytes of
  * UTF-8, numbers of 16 bits of UTF-16, or characters (code points). They begin at 0. A text has at
@@ -29,9 +31,9 @@
  *
  * ANSWERS. Each call but the close calls answers an int: RBBI_OK, RBBI_DONE, or an error. An error
  * leaves every handle and every number as it was, but that RBBI_FAULT writes the fault, and RBBI_ROOM
- * what has room and the length. No call ends the process, writes or reads a file, or waits. Opening,
- * editing, compiling, loading and writing take memory. No question does: that is in no contract, but
- * by reading the code.
+ * what has room and the length. No call ends the process, writes or reads a file, or waits, but for
+ * the turns above. Opening, editing, compiling, loading and writing take memory. No question does:
+ * that is in no contract, but by reading the code.
  */
 #ifndef RBBI_H
 #define RBBI_H
