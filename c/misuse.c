@@ -23,6 +23,10 @@ int main(void) {
     uint32_t told = 77;
     size_t count;
 
+    /* versions */
+    IS(strcmp(rbbi_version(), RBBI_VERSION), 0);
+    IS(strncmp(rbbi_unicode_version(), "18.", 3), 0);
+
     /* NULL */
     IS(rbbi_files_open(NULL), RBBI_NULL);
     IS(rbbi_table_compile(NULL, NULL, rules, strlen(rules), 0, NULL), RBBI_NULL);
@@ -43,6 +47,13 @@ int main(void) {
     /* faults */
     IS(rbbi_table_compile(&table, NULL, "a;\n$;", 5, 0, &fault), RBBI_FAULT);
     printf("%u:%u: %s\n", fault.line, fault.column, fault.name);
+    IS(fault.byte == 3, 1);
+    IS(strcmp(rbbi_fault_message(&fault), "no name follows"), 0);
+    IS(strcmp(rbbi_fault_message(NULL), "this is no fault of rbbi"), 0);
+    const char *marked = "\xef\xbb\xbf\xc3\xa4;\n\xc3\xa4$;";
+    IS(rbbi_table_compile(&table, NULL, marked, 11, 0, &fault), RBBI_FAULT);
+    IS(fault.line == 2 && fault.column == 2 && fault.byte == 9, 1);
+    IS(rbbi_table_compile(&table, NULL, "a;\n\xc3\xa4 $", 7, 0, NULL), RBBI_FAULT);
     IS(rbbi_table_compile(&table, NULL, "\xff", 1, 0, &fault), RBBI_FAULT);
     printf("%u: %s\n", fault.byte, fault.name);
     IS(rbbi_table_load(&table, "RBBI", 4, &fault), RBBI_FAULT);

@@ -3,8 +3,8 @@
  *
  * Contracts see a reference that C passes as one that isn't NULL, and a handle as one that nobody else
  * uses during the call. So what is done here, and nothing else: pointers that are NULL are refused,
- * and threads that pass one table's handle take turns. A `Memory` takes no bytes, and is passed as
- * nothing.
+ * threads that pass one table's handle take turns, and the byte of a fault in rules is counted. A
+ * `Memory` takes no bytes, and is passed as nothing.
  */
 #include "rbbi.h"
 
@@ -48,6 +48,13 @@ extern const struct rbbi_built_in {
     size_t length;
 } rbbi_built_in[];
 
+/* The version of Unicode of these tables, and what each fault is in a sentence, which bin/build-c
+   writes too; the last has no name. */
+extern const char rbbi_built_in_unicode[];
+extern const struct rbbi_built_in_fault {
+    const char *name, *sentence;
+} rbbi_built_in_faults[];
+
 /* A slice of no items needs a pointer too. */
 static uint32_t nothing[1];
 
@@ -77,6 +84,22 @@ const char *rbbi_message(int answer) {
     return messages[answer];
 }
 
+const char *rbbi_fault_message(const rbbi_fault *fault) {
+    const struct rbbi_built_in_fault *found = rbbi_built_in_faults;
+    while (fault && found->name && strcmp(found->name, fault->name) != 0) {
+        found++;
+    }
+    return fault && found->name ? found->sentence : "this is no fault of rbbi";
+}
+
+const char *rbbi_version(void) {
+    return RBBI_VERSION;
+}
+
+const char *rbbi_unicode_version(void) {
+    return rbbi_built_in_unicode;
+}
+
 /* Makes `other` one more handle of the table. The proved side takes the table out of its handle for
    this, and puts it back; meanwhile no other thread may look into the handle. */
 static int share(rbbi_table *table, rbbi_table *other) {
@@ -85,6 +108,20 @@ static int share(rbbi_table *table, rbbi_table *other) {
     uint32_t answer = rbbi_c_table_share(table, other);
     pthread_mutex_unlock(&turn);
     return (int)answer;
+}
+
+/* The byte at a line and a column of rules, each from 1. A line ends at LF, and a U+FEFF at the start
+   isn't counted. */
+static uint32_t byte_at(const uint8_t *rules, size_t length, uint32_t line, uint32_t column) {
+    size_t at = length >= 3 && memcmp(rules, "\xEF\xBB\xBF", 3) == 0 ? 3 : 0;
+    while (at < length && line > 1) {
+        line -= rules[at++] == '\n';
+    }
+    while (at < length && column > 1) {
+        at++;
+        column -= at == length || (rules[at] & 0xC0) != 0x80;
+    }
+    return (uint32_t)at;
 }
 
 /* Passes a fault on as its name, ended by a zero, and its place. */
@@ -131,10 +168,13 @@ int rbbi_table_compile(rbbi_table *table, rbbi_files *files, const void *rules, 
     rbbi_fault other;
     rbbi_files none = RBBI_INIT;
     uint8_t *name = (uint8_t *)(fault ? fault->name : other.name);
-    return pass(rbbi_c_table_compile(files ? files : &none, from(rules), length,
-                                     ignore_dictionary != 0, table, &at, name,
-                                     sizeof other.name - 1),
-                &at, fault);
+    uint32_t answer =
+        rbbi_c_table_compile(files ? files : &none, from(rules), length, ignore_dictionary != 0,
+                             table, &at, name, sizeof other.name - 1);
+    if (at.row > 0 && at.column > 0) {
+        at.byte = byte_at(from(rules), length, at.row, at.column);
+    }
+    return pass(answer, &at, fault);
 }
 
 int rbbi_table_load(rbbi_table *table, const void *bytes, size_t length, rbbi_fault *fault) {

@@ -45,6 +45,9 @@
 extern "C" {
 #endif
 
+/* The version of this header: new calls raise its second number, changed ones its first. */
+#define RBBI_VERSION "2.0.0"
+
 /* A list of property files, a table and a session. */
 typedef struct rbbi_files {
     void *held;
@@ -91,16 +94,26 @@ enum {
 };
 
 /* A fault of rules, a property file or a table file, as RBBI_FAULT tells it. docs/rules.md and
-   docs/formats.md have all names. */
+   docs/formats.md have all names, and rbbi_fault_message says in a sentence what each is. */
 typedef struct rbbi_fault {
     char name[40];   /* its name, as "UnknownProperty", ended by a zero */
     uint32_t line;   /* its line, from 1, or 0 where it has none */
     uint32_t column; /* its column, in characters from 1, or 0 where it has none */
-    uint32_t byte;   /* its byte, from 0, or UINT32_MAX where it has none */
+    uint32_t byte;   /* its byte, from 0, or UINT32_MAX where it has none; of rules, where it has a
+                        line and a column, the byte there */
 } rbbi_fault;
 
 /* A sentence that says what an answer is. */
 const char *rbbi_message(int answer);
+
+/* A sentence that says what a fault is, by its name, as "this quote isn't closed in its line". */
+const char *rbbi_fault_message(const rbbi_fault *fault);
+
+/* The version of the library, as RBBI_VERSION is that of the header. */
+const char *rbbi_version(void);
+
+/* The version of Unicode whose data is in the library, as "18.0.0". */
+const char *rbbi_unicode_version(void);
 
 /* ---- property files: what \p{NAME=VALUE} of rules stands for, beside what is built in ---- */
 
