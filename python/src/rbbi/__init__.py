@@ -1,0 +1,271 @@
+"""Text boundaries (characters, words, sentences, lines) by break rules, over the C library of rbbi.
+
+    from rbbi import Table
+    with Table.named('word') as table, table.session("can't 32.3.") as session:
+        for segment in session:
+            print(segment.start, segment.end, segment.status)
+
+Places count characters, as the places of a `str` do, unless a session is opened in another unit.
+The library is the one that RBBI_LIBRARY names, else the one in this package, else the one that the
+system's loader finds. Calls of one table or session take turns, so threads may share it.
+"""
+from __future__ import annotations
+
+import ctypes
+import enum
+import threading
+from typing import (Any, Callable, ClassVar, Iterable, Iterator, NamedTuple, Optional, TypeVar,
+                    Union)
+
+from ._library import LIBRARY, Answer, CFault, Error, Fault, Handle, checked
+
+__all__ = ['Answer', 'Error', 'Fault', 'Segment', 'Session', 'Table', 'Text', 'Unit',
+           'unicode_version', 'version']
+
+Text = Union[str, bytes]
+"""A text: a `str`, or bytes of UTF-8."""
+
+version: str = LIBRARY.rbbi_version().decode()
+"""The version of the C library."""
+
+unicode_version: str = LIBRARY.rbbi_unicode_version().decode()
+"""The version of Unicode whose data is in the library."""
+
+
+class Unit(enum.IntEnum):
+    """What places, lengths and numbers of a session count."""
+    CHARS = 0
+    """Characters: code points, as a `str` has them."""
+    UTF8 = 1
+    """Bytes of UTF-8."""
+    UTF16 = 2
+    """Numbers of 16 bits of UTF-16."""
+
+
+class Segment(NamedTuple):
+    """What stands between two neighbouring boundaries, and the greatest status of its end."""
+    start: int
+    end: int
+    status: int
+
+
+def _bytes(text: Text) -> bytes:
+    return text.encode() if isinstance(text, str) else text
+
+
+def _number(number: int) -> int:
+    if not 0 <= number < 1 << 32:
+        raise ValueError('a place and a number are from 0 to 4294967295')
+    return number
+
+
+_Self = TypeVar('_Self', bound='_Closing')
+
+
+class _Closing:
+    """What has a handle of C, which one thread at a time uses, and closes it."""
+    _close: ClassVar[Callable[[Any], None]]
+
+    def __init__(self) -> None:
+        self._handle = Handle()
+        self._ref = ctypes.byref(self._handle)
+        self._lock = threading.Lock()
+
+    def close(self) -> None:
+        """Frees what is held. Closing twice does nothing; other calls then raise `Error`."""
+        with self._lock:
+            type(self)._close(self._ref)
+
+    def __enter__(self: _Self) -> _Self:
+        return self
+
+    def __exit__(self, *_: object) -> None:
+        self.close()
+
+    def __del__(self) -> None:
+        if hasattr(self, '_lock'):
+            self.close()
+
+
+class _Files(_Closing):
+    """A list of property files."""
+    _close = LIBRARY.rbbi_files_close
+
+    def __init__(self, files: Iterable[tuple[str, bytes]]) -> None:
+        super().__init__()
+        checked(LIBRARY.rbbi_files_open(self._ref))
+        for name, rows in files:
+            if '\0' in name:
+                raise ValueError('a name of a property has no zero in it')
+            fault = CFault()
+            checked(LIBRARY.rbbi_files_add(self._ref, name.encode(), rows, len(rows),
+                                           ctypes.byref(fault)), fault)
+
+
+class Table(_Closing):
+    """A table of break rules. Sessions share it, and keep it in memory after it is closed."""
+    _close = LIBRARY.rbbi_table_close
+
+    @classmethod
+    def compile(cls, rules: Text, files: Iterable[tuple[str, bytes]] = (),
+                ignore_dictionary: bool = False) -> Table:
+        """The table of the rules of a rule file (docs/rules.md).
+
+        `files` are property files: pairs of a name, as `WB` of `\\p{WB=Numeric}`, and its rows.
+        Raises `Fault` for the first fault of the rules or of a property file.
+        """
+        rules, table, fault = _bytes(rules), cls(), CFault()
+        with _Files(files) as list_of:
+            checked(LIBRARY.rbbi_table_compile(table._ref, list_of._ref, rules, len(rules),
+                                               int(ignore_dictionary), ctypes.byref(fault)), fault)
+        return table
+
+    @classmethod
+    def load(cls, table_file: bytes) -> Table:
+        """The table of a table file, as `write` gives it. Raises `Fault` if it isn't valid."""
+        table, fault = cls(), CFault()
+        checked(LIBRARY.rbbi_table_load(table._ref, table_file, len(table_file),
+                                        ctypes.byref(fault)), fault)
+        return table
+
+    @classmethod
+    def named(cls, name: str) -> Table:
+        """A table that is in the library: `grapheme`, `word`, `sentence` or `line`."""
+        table = cls()
+        checked(LIBRARY.rbbi_table_named(table._ref, name.encode().split(b'\0')[0]))
+        return table
+
+    def share(self) -> Table:
+        """One more owner of the same table in memory."""
+        other = Table()
+        with self._lock:
+            checked(LIBRARY.rbbi_table_share(other._ref, self._ref))
+        return other
+
+    def write(self) -> bytes:
+        """The bytes of the table's file."""
+        length = ctypes.c_size_t()
+        with self._lock:
+            answer = LIBRARY.rbbi_table_write(self._ref, None, 0, ctypes.byref(length))
+            if answer != Answer.ROOM:
+                checked(answer)
+            room = ctypes.create_string_buffer(length.value)
+            checked(LIBRARY.rbbi_table_write(self._ref, room, length, ctypes.byref(length)))
+        return room.raw
+
+    def session(self, text: Text, unit: Unit = Unit.CHARS) -> Session:
+        """A session over a text, with places in a unit."""
+        return Session(self, text, unit)
+
+
+class Session(_Closing):
+    """A text with a table and a cursor, which begins at 0.
+
+    Each answer is what a scan of the whole text as it is gives, and moves the cursor to the boundary
+    that is found. Where there is none the answer is None, and the cursor goes to the end or to 0.
+    """
+    _close = LIBRARY.rbbi_session_close
+
+    def __init__(self, table: Table, text: Text, unit: Unit = Unit.CHARS) -> None:
+        """Opens a session over a text. Raises `Error` where it has over 16,777,216 characters."""
+        super().__init__()
+        self._place = ctypes.c_uint32()
+        self._place_ref = ctypes.byref(self._place)
+        text = _bytes(text)
+        with table._lock:
+            checked(LIBRARY.rbbi_session_open(self._ref, table._ref, text, len(text), unit))
+
+    def _asked(self, call: Callable[..., int], *numbers: int) -> Optional[int]:
+        """The number that a call answers, or None where there is no such boundary."""
+        with self._lock:
+            answer = call(self._ref, *numbers, self._place_ref)
+            if answer == 0:
+                return self._place.value
+        checked(answer)
+        return None
+
+    def _told(self, call: Callable[..., int]) -> int:
+        """The number of a call that always has one."""
+        number = self._asked(call)
+        assert number is not None
+        return number
+
+    def first(self) -> int:
+        """The first boundary, which is 0."""
+        return self._told(LIBRARY.rbbi_session_first)
+
+    def last(self) -> int:
+        """The last boundary, which is the length."""
+        return self._told(LIBRARY.rbbi_session_last)
+
+    def next(self) -> Optional[int]:
+        """The boundary after the cursor."""
+        return self._asked(LIBRARY.rbbi_session_next)
+
+    def previous(self) -> Optional[int]:
+        """The boundary before the cursor."""
+        return self._asked(LIBRARY.rbbi_session_previous)
+
+    def following(self, place: int) -> Optional[int]:
+        """The first boundary after a place, which may be any."""
+        return self._asked(LIBRARY.rbbi_session_following, _number(place))
+
+    def preceding(self, place: int) -> Optional[int]:
+        """The last boundary before a place, which may be any."""
+        return self._asked(LIBRARY.rbbi_session_preceding, _number(place))
+
+    def is_boundary(self, place: int) -> bool:
+        """Whether a place is a boundary. The cursor goes to the first one that isn't before it."""
+        return self._asked(LIBRARY.rbbi_session_is_boundary, _number(place)) == 1
+
+    def current(self) -> int:
+        """Where the cursor is."""
+        return self._told(LIBRARY.rbbi_session_current)
+
+    def status(self) -> int:
+        """The greatest status of the boundary at the cursor."""
+        return self._told(LIBRARY.rbbi_session_status)
+
+    def statuses(self) -> list[int]:
+        """All statuses of the boundary at the cursor, which rise."""
+        room, count = (ctypes.c_uint32 * 8)(), ctypes.c_size_t()
+        with self._lock:
+            call = LIBRARY.rbbi_session_statuses
+            answer = call(self._ref, room, len(room), ctypes.byref(count))
+            if answer == Answer.ROOM:
+                room = (ctypes.c_uint32 * count.value)()
+                answer = call(self._ref, room, len(room), ctypes.byref(count))
+        checked(answer)
+        return list(room[:count.value])
+
+    def __len__(self) -> int:
+        """The length of the text, in the unit."""
+        return self._told(LIBRARY.rbbi_session_length)
+
+    def replace(self, at: int, remove: int, insert: Text) -> None:
+        """Puts `insert` in place of `remove` units from `at` on, and the cursor at 0.
+
+        Raises `Error` where the edit reaches past the end, or begins or ends inside of a character.
+        """
+        insert = _bytes(insert)
+        with self._lock:
+            checked(LIBRARY.rbbi_session_replace(self._ref, _number(at), _number(remove), insert,
+                                                 len(insert)))
+
+    def segments(self) -> Iterator[Segment]:
+        """Each segment, from the start of the text on. It moves the cursor as it goes."""
+        start = self.first()
+        go_on, tell, number = LIBRARY.rbbi_session_next, LIBRARY.rbbi_session_status, self._place
+        while True:
+            with self._lock:
+                answer = go_on(self._ref, self._place_ref)
+                end = number.value
+                if answer == 0:
+                    answer = tell(self._ref, self._place_ref)
+                status = number.value
+            if checked(answer) == Answer.DONE:
+                return
+            yield Segment(start, end, status)
+            start = end
+
+    __iter__ = segments

@@ -1,0 +1,185 @@
+"""Tests of the package as it is installed: `python3 -m unittest discover python/tests`, or pytest."""
+import ctypes
+import inspect
+import random
+import threading
+import unittest
+
+import rbbi
+from rbbi import Answer, Error, Fault, Segment, Table, Unit
+
+RULES = """!!chain;
+$Letter = [A-Za-z\u00e4];
+[0-9]+ {100};
+$Letter+ {200};
+$Letter+ ['] $Letter+ {200};
+"""
+
+
+class Sessions(unittest.TestCase):
+    """Questions and edits."""
+
+    def setUp(self):
+        self.table = Table.compile(RULES)
+
+    def tearDown(self):
+        self.table.close()
+
+    def test_segments_have_the_greatest_status_of_their_end(self):
+        with self.table.session("can't 32") as session:
+            self.assertEqual(list(session), [(0, 5, 200), (5, 6, 0), (6, 8, 100)])
+            self.assertEqual(list(session)[0], Segment(start=0, end=5, status=200))
+
+    def test_places_count_the_unit(self):
+        text = '\u00e4\U0001f600b'
+        for unit, places in [(Unit.CHARS, [1, 2, 3]), (Unit.UTF16, [1, 3, 4]), (Unit.UTF8, [2, 6, 7])]:
+            with self.table.session(text, unit) as session:
+                self.assertEqual([segment.end for segment in session], places)
+                self.assertEqual(len(session), places[-1])
+
+    def test_each_question_moves_the_cursor(self):
+        with self.table.session(b'ab 12') as session:
+            self.assertEqual((session.first(), session.current()), (0, 0))
+            self.assertEqual((session.last(), session.current()), (5, 5))
+            self.assertEqual((session.status(), session.statuses()), (100, [100]))
+            self.assertIsNone(session.next())
+            self.assertEqual((session.previous(), session.next()), (3, 5))
+            self.assertEqual((session.following(0), session.status()), (2, 200))
+            self.assertEqual((session.preceding(5), session.preceding(0)), (3, None))
+            self.assertTrue(session.is_boundary(2))
+            self.assertFalse(session.is_boundary(1))
+            self.assertEqual(session.current(), 2)
+            self.assertIsNone(session.following(2 ** 32 - 1))
+
+    def test_edits_answer_as_a_new_session_over_the_new_text(self):
+        draw = random.Random(1)
+        text = ''.join(draw.choice("ab1' \u00e4\U0001f600") for _ in range(300))
+        with self.table.session(text) as session:
+            for _ in range(100):
+                at = draw.randint(0, len(text))
+                remove = draw.randint(0, min(3, len(text) - at))
+                insert = ''.join(draw.choice("ab1' \u00e4") for _ in range(draw.randint(0, 3)))
+                session.replace(at, remove, insert)
+                text = text[:at] + insert + text[at + remove:]
+                with self.table.session(text) as new:
+                    self.assertEqual(list(session), list(new))
+
+    def test_edits_that_cannot_be_are_refused_and_change_nothing(self):
+        with self.table.session('a\U0001f600', Unit.UTF16) as session:
+            for at, remove, answer in [(3, 1, Answer.OUTSIDE), (2, 0, Answer.INSIDE)]:
+                with self.assertRaises(Error) as caught:
+                    session.replace(at, remove, 'x')
+                self.assertEqual(caught.exception.answer, answer)
+            self.assertEqual(len(session), 3)
+
+    def test_numbers_past_32_bits_and_texts_that_are_not_utf8_are_refused(self):
+        with self.table.session('ab') as session:
+            for number in (-1, 2 ** 32):
+                with self.assertRaises(ValueError):
+                    session.following(number)
+            with self.assertRaises(UnicodeEncodeError):
+                session.replace(0, 0, '\ud800')
+        with self.assertRaises(Error) as caught:
+            self.table.session(b'\xff')
+        self.assertEqual(caught.exception.answer, Answer.NOT_UTF8)
+
+    def test_a_session_outlives_its_table_and_is_closed_once(self):
+        with Table.named('word') as table:
+            session = table.session('ab cd')
+        self.assertEqual(session.next(), 2)
+        session.close()
+        session.close()
+        with self.assertRaises(Error) as caught:
+            session.next()
+        self.assertEqual(caught.exception.answer, Answer.HANDLE)
+
+
+class Tables(unittest.TestCase):
+    """Rules, table files and the tables of the library."""
+
+    def test_a_table_is_written_loaded_and_shared(self):
+        with Table.compile(RULES) as table, table.share() as other:
+            with Table.load(table.write()) as loaded:
+                self.assertEqual(loaded.write(), other.write())
+                with loaded.session('ab 12') as session:
+                    self.assertEqual([segment.end for segment in session], [2, 3, 5])
+
+    def test_the_library_has_four_tables(self):
+        ends = {'grapheme': [1, 3, 4], 'word': [3, 4], 'sentence': [4], 'line': [4]}
+        for name, wanted in ends.items():
+            with Table.named(name) as table, table.session('ae\u0301.') as session:
+                self.assertEqual([segment.end for segment in session], wanted, name)
+        with self.assertRaises(Error) as caught:
+            Table.named('words')
+        self.assertEqual(caught.exception.answer, Answer.NAME)
+
+    def test_a_fault_has_a_name_and_a_place(self):
+        with self.assertRaises(Fault) as caught:
+            Table.compile('a;\n\u00e4 $;')
+        fault = caught.exception
+        self.assertEqual((fault.name, fault.line, fault.column, fault.byte), ('BadName', 2, 3, 6))
+        self.assertEqual((fault.sentence, fault.answer), ('no name follows', Answer.FAULT))
+        self.assertEqual(str(fault), '2:3: BadName: no name follows')
+        with self.assertRaises(Fault) as caught:
+            Table.load(b'RBBI')
+        self.assertIsNone(caught.exception.line)
+
+    def test_property_files_are_used_and_their_faults_told(self):
+        rows = b'0061..0063 ; Y\n'
+        with Table.compile(r'\p{X=Y}+;', [('X', rows)]) as table, table.session('abcd') as session:
+            self.assertEqual(session.next(), 3)
+        with self.assertRaises(Fault) as caught:
+            Table.compile('a;', [('X', rows + b'no\n')])
+        self.assertEqual((caught.exception.name, caught.exception.line), ('BadRow', 2))
+        with self.assertRaises(ValueError):
+            Table.compile('a;', [('X\0', rows)])
+
+
+class Package(unittest.TestCase):
+    """What holds of the package as a whole."""
+
+    def test_threads_share_a_table_and_a_session(self):
+        text, found = "can't 32.3. " * 50, []
+        with Table.named('word') as table, table.session(text) as alone, table.session(text) as one:
+            wanted = list(alone)
+
+            def work():
+                for _ in range(10):
+                    with table.session(text) as session:
+                        found.append(list(session) == wanted)
+                    one.replace(0, 1, 'c')
+                    one.following(20)
+
+            threads = [threading.Thread(target=work) for _ in range(4)]
+            for thread in threads:
+                thread.start()
+            for thread in threads:
+                thread.join()
+            self.assertEqual(found, [True] * 40)
+            self.assertEqual(list(one), wanted)
+
+    def test_versions(self):
+        self.assertRegex(rbbi.version, r'^\d+\.\d+\.\d+$')
+        self.assertRegex(rbbi.unicode_version, r'^\d+\.\d+\.\d+$')
+
+    def test_each_answer_has_a_sentence(self):
+        for answer in Answer:
+            self.assertNotIn('no answer', str(Error(answer)))
+
+    def test_all_that_is_public_is_documented(self):
+        for name in rbbi.__all__:
+            thing = getattr(rbbi, name)
+            if not inspect.isclass(thing):
+                continue
+            self.assertTrue(thing.__doc__, name)
+            for part, value in vars(thing).items():
+                if inspect.isfunction(value) and not part.startswith('_'):
+                    self.assertTrue(value.__doc__, f'{name}.{part}')
+
+    def test_handles_are_as_c_has_them(self):
+        self.assertEqual(ctypes.sizeof(rbbi._library.Handle), ctypes.sizeof(ctypes.c_void_p))
+        self.assertEqual(ctypes.sizeof(rbbi._library.CFault), 52)
+
+
+if __name__ == '__main__':
+    unittest.main()
