@@ -1,0 +1,187 @@
+//! A text with a table and a cursor.
+use crate::error::{checked, Error};
+use rbbi_sys::{rbbi_handle, RBBI_INIT, RBBI_OK, RBBI_ROOM};
+use std::ffi::c_int;
+
+/// What places, lengths and numbers of a session count.
+#[derive(Clone, Copy, Debug, PartialEq, Eq)]
+#[repr(i32)]
+pub enum Unit {
+    /// Characters: code points.
+    Chars = rbbi_sys::RBBI_CHARS,
+    /// Bytes of UTF-8, as the places of a `str` do.
+    Utf8 = rbbi_sys::RBBI_UTF8,
+    /// Numbers of 16 bits of UTF-16.
+    Utf16 = rbbi_sys::RBBI_UTF16,
+}
+
+/// What stands between two neighbouring boundaries, and the greatest status of its end.
+#[derive(Clone, Copy, Debug, PartialEq, Eq)]
+pub struct Segment {
+    /// Where it begins.
+    pub start: u32,
+    /// Where it ends.
+    pub end: u32,
+    /// The greatest status of its end.
+    pub status: u32,
+}
+
+/// A text with a table and a cursor. Each answer is what a scan of the whole text as it is gives.
+///
+/// A question moves the cursor to the boundary that it finds. Where there is none it answers `None`,
+/// and the cursor goes to the end of the text or to 0.
+#[derive(Debug)]
+pub struct Session {
+    handle: rbbi_handle,
+}
+
+// SAFETY: the handle has no state of its thread, and each call takes `&mut`.
+unsafe impl Send for Session {}
+
+type Question = unsafe extern "C" fn(*mut rbbi_handle, *mut u32) -> c_int;
+type QuestionAt = unsafe extern "C" fn(*mut rbbi_handle, u32, *mut u32) -> c_int;
+
+impl Session {
+    /// Opens a session by the table of a handle, which is a live one.
+    pub(crate) fn open(table: *mut rbbi_handle, text: &str, unit: Unit) -> Result<Session, Error> {
+        let mut session = Session { handle: RBBI_INIT };
+        let (text, length) = (text.as_ptr().cast(), text.len());
+        // SAFETY: two handles, of which the session's holds nothing, and a live text.
+        checked(unsafe {
+            let handle = &mut session.handle;
+            rbbi_sys::rbbi_session_open(handle, table, text, length, unit as c_int)
+        })?;
+        Ok(session)
+    }
+
+    fn asked(&mut self, question: Question) -> Option<u32> {
+        let mut told = 0;
+        // SAFETY: the handle holds a session, and the number is live.
+        let answer = unsafe { question(&mut self.handle, &mut told) };
+        (answer == RBBI_OK).then_some(told)
+    }
+
+    fn asked_at(&mut self, question: QuestionAt, place: u32) -> Option<u32> {
+        let mut told = 0;
+        // SAFETY: as in `asked`.
+        let answer = unsafe { question(&mut self.handle, place, &mut told) };
+        (answer == RBBI_OK).then_some(told)
+    }
+
+    /// The first boundary, which is 0.
+    pub fn first(&mut self) -> u32 {
+        self.asked(rbbi_sys::rbbi_session_first).unwrap_or(0)
+    }
+
+    /// The last boundary, which is the length.
+    pub fn last(&mut self) -> u32 {
+        self.asked(rbbi_sys::rbbi_session_last).unwrap_or(0)
+    }
+
+    /// The boundary after the cursor.
+    #[allow(clippy::should_implement_trait)]
+    pub fn next(&mut self) -> Option<u32> {
+        self.asked(rbbi_sys::rbbi_session_next)
+    }
+
+    /// The boundary before the cursor.
+    pub fn previous(&mut self) -> Option<u32> {
+        self.asked(rbbi_sys::rbbi_session_previous)
+    }
+
+    /// The first boundary after a place, which may be any.
+    pub fn following(&mut self, place: u32) -> Option<u32> {
+        self.asked_at(rbbi_sys::rbbi_session_following, place)
+    }
+
+    /// The last boundary before a place, which may be any.
+    pub fn preceding(&mut self, place: u32) -> Option<u32> {
+        self.asked_at(rbbi_sys::rbbi_session_preceding, place)
+    }
+
+    /// Whether a place is a boundary. The cursor goes to the first one that isn't before it.
+    pub fn is_boundary(&mut self, place: u32) -> bool {
+        self.asked_at(rbbi_sys::rbbi_session_is_boundary, place) == Some(1)
+    }
+
+    /// Where the cursor is.
+    pub fn current(&mut self) -> u32 {
+        self.asked(rbbi_sys::rbbi_session_current).unwrap_or(0)
+    }
+
+    /// The greatest status of the boundary at the cursor.
+    pub fn status(&mut self) -> u32 {
+        self.asked(rbbi_sys::rbbi_session_status).unwrap_or(0)
+    }
+
+    /// All statuses of the boundary at the cursor, which rise.
+    pub fn statuses(&mut self) -> Result<Vec<u32>, Error> {
+        let (mut all, mut count) = (vec![0; 4], 0);
+        loop {
+            let room = all.as_mut_ptr();
+            // SAFETY: the room has so many numbers.
+            let answer = unsafe {
+                rbbi_sys::rbbi_session_statuses(&mut self.handle, room, all.len(), &mut count)
+            };
+            all.resize(count, 0);
+            if answer != RBBI_ROOM {
+                return checked(answer).map(|()| all);
+            }
+        }
+    }
+
+    /// The length of the text, in the unit.
+    pub fn length(&mut self) -> u32 {
+        self.asked(rbbi_sys::rbbi_session_length).unwrap_or(0)
+    }
+
+    /// Puts a string in place of `remove` units from `at` on, and the cursor at 0.
+    ///
+    /// Refuses `Outside` past the end, `Inside` where it begins or ends inside of a character, and
+    /// `TooLong` where the text would have more than 16,777,216 characters.
+    pub fn replace(&mut self, at: u32, remove: u32, insert: &str) -> Result<(), Error> {
+        let (text, length) = (insert.as_ptr().cast(), insert.len());
+        // SAFETY: the handle holds a session, and the string is live.
+        checked(unsafe {
+            rbbi_sys::rbbi_session_replace(&mut self.handle, at, remove, text, length)
+        })
+    }
+
+    /// Each segment, from the start of the text on. It moves the cursor as it goes.
+    pub fn segments(&mut self) -> Segments<'_> {
+        let start = self.first();
+        Segments {
+            session: self,
+            start,
+        }
+    }
+}
+
+impl Drop for Session {
+    fn drop(&mut self) {
+        // SAFETY: no copy of the handle was made.
+        unsafe { rbbi_sys::rbbi_session_close(&mut self.handle) }
+    }
+}
+
+/// The segments of a session's text, in order.
+#[derive(Debug)]
+pub struct Segments<'a> {
+    session: &'a mut Session,
+    start: u32,
+}
+
+impl Iterator for Segments<'_> {
+    type Item = Segment;
+
+    fn next(&mut self) -> Option<Segment> {
+        let start = self.start;
+        let end = self.session.next()?;
+        self.start = end;
+        Some(Segment {
+            start,
+            end,
+            status: self.session.status(),
+        })
+    }
+}

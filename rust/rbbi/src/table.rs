@@ -1,0 +1,154 @@
+//! Property files and tables.
+use crate::error::{checked, told, Error};
+use crate::{Session, Unit};
+use rbbi_sys::{rbbi_handle, RBBI_INIT};
+use std::cell::UnsafeCell;
+use std::ffi::{c_int, CString};
+use std::ptr;
+
+/// Property files: what `\p{NAME=VALUE}` of rules stands for, beside what is built in.
+#[derive(Debug)]
+pub struct Files {
+    handle: rbbi_handle,
+}
+
+// SAFETY: the handle has no state of its thread, and each call takes `&mut`.
+unsafe impl Send for Files {}
+
+impl Files {
+    /// A list of no files.
+    pub fn new() -> Result<Files, Error> {
+        let mut files = Files { handle: RBBI_INIT };
+        // SAFETY: the handle holds nothing.
+        checked(unsafe { rbbi_sys::rbbi_files_open(&mut files.handle) })?;
+        Ok(files)
+    }
+
+    /// Adds the rows of a file of the Unicode Character Database, or of its form, under the name of
+    /// its property, as `WB`.
+    pub fn add(&mut self, property: &str, rows: &[u8]) -> Result<(), Error> {
+        let property = CString::new(property).map_err(|_| Error::Zero)?;
+        // SAFETY: the pointers are those of live values, with their lengths.
+        told(|fault| unsafe {
+            let (rows, length) = (rows.as_ptr().cast(), rows.len());
+            rbbi_sys::rbbi_files_add(&mut self.handle, property.as_ptr(), rows, length, fault)
+        })
+    }
+}
+
+impl Drop for Files {
+    fn drop(&mut self) {
+        // SAFETY: no copy of the handle was made.
+        unsafe { rbbi_sys::rbbi_files_close(&mut self.handle) }
+    }
+}
+
+/// A table of break rules. Sessions keep it in memory, and threads may share it.
+#[derive(Debug)]
+pub struct Table {
+    handle: UnsafeCell<rbbi_handle>,
+}
+
+// SAFETY: the calls that take `&Table` are those to which `rbbi.h` lets several threads pass one
+// handle at once; closing takes `&mut`.
+unsafe impl Send for Table {}
+unsafe impl Sync for Table {}
+
+impl Table {
+    fn closed() -> Table {
+        Table {
+            handle: UnsafeCell::new(RBBI_INIT),
+        }
+    }
+
+    /// The table of the rules of a rule file, without property files.
+    ///
+    /// Refuses `Fault`, the first one of the rules.
+    pub fn compile(rules: &str) -> Result<Table, Error> {
+        Table::compiled(rules.as_bytes(), ptr::null_mut(), false)
+    }
+
+    /// The table of the rules of a rule file, with property files. If `ignore_dictionary`,
+    /// `$dictionary` of the rules is ignored.
+    pub fn compile_with(
+        rules: &[u8],
+        files: &mut Files,
+        ignore_dictionary: bool,
+    ) -> Result<Table, Error> {
+        Table::compiled(rules, &mut files.handle, ignore_dictionary)
+    }
+
+    fn compiled(rules: &[u8], files: *mut rbbi_handle, ignored: bool) -> Result<Table, Error> {
+        let mut table = Table::closed();
+        let (bytes, length) = (rules.as_ptr().cast(), rules.len());
+        // SAFETY: the handle holds nothing, and the pointers are those of live values, or NULL.
+        told(|fault| unsafe {
+            let handle = table.handle.get_mut();
+            rbbi_sys::rbbi_table_compile(handle, files, bytes, length, c_int::from(ignored), fault)
+        })?;
+        Ok(table)
+    }
+
+    /// The table of a table file, as [`Table::write`] gives it.
+    ///
+    /// Refuses `Fault` where the bytes are no valid table file.
+    pub fn load(bytes: &[u8]) -> Result<Table, Error> {
+        let mut table = Table::closed();
+        // SAFETY: as in `compiled`.
+        told(|fault| unsafe {
+            let (file, length) = (bytes.as_ptr().cast(), bytes.len());
+            rbbi_sys::rbbi_table_load(table.handle.get_mut(), file, length, fault)
+        })?;
+        Ok(table)
+    }
+
+    /// A table that is in the library: `grapheme`, `word`, `sentence` or `line`.
+    ///
+    /// Refuses `Name` for any other name.
+    pub fn named(name: &str) -> Result<Table, Error> {
+        let mut table = Table::closed();
+        let name = CString::new(name).map_err(|_| Error::Name)?;
+        // SAFETY: as in `compiled`, and the name ends with a zero.
+        checked(unsafe { rbbi_sys::rbbi_table_named(table.handle.get_mut(), name.as_ptr()) })?;
+        Ok(table)
+    }
+
+    /// One more owner of the same table in memory.
+    pub fn share(&self) -> Result<Table, Error> {
+        let mut other = Table::closed();
+        // SAFETY: two handles; several threads may pass that of `self`.
+        checked(unsafe { rbbi_sys::rbbi_table_share(other.handle.get_mut(), self.handle.get()) })?;
+        Ok(other)
+    }
+
+    /// The bytes of the table's file.
+    pub fn write(&self) -> Result<Vec<u8>, Error> {
+        let (mut file, mut length) = (Vec::new(), 0);
+        loop {
+            let room: *mut u8 = file.as_mut_ptr();
+            // SAFETY: the room has so many bytes; several threads may pass the handle.
+            let answer = unsafe {
+                let handle = self.handle.get();
+                rbbi_sys::rbbi_table_write(handle, room.cast(), file.len(), &mut length)
+            };
+            if answer != rbbi_sys::RBBI_ROOM {
+                return checked(answer).map(|()| file);
+            }
+            file.resize(length, 0);
+        }
+    }
+
+    /// A session over a text, with places in a unit. The cursor is at 0.
+    ///
+    /// Refuses `TooLong` where the text has more than 16,777,216 characters.
+    pub fn session(&self, text: &str, unit: Unit) -> Result<Session, Error> {
+        Session::open(self.handle.get(), text, unit)
+    }
+}
+
+impl Drop for Table {
+    fn drop(&mut self) {
+        // SAFETY: no copy of the handle was made.
+        unsafe { rbbi_sys::rbbi_table_close(self.handle.get_mut()) }
+    }
+}

@@ -1,0 +1,174 @@
+//! The calls of the crate, over the library.
+use rbbi::{Error, Files, Segment, Session, Table, Unit};
+use std::thread;
+
+const RULES: &str = "!!chain;
+$Letter = [A-Za-z\u{e4}];
+[0-9]+ {100};
+$Letter+ {200};
+$Letter+ ['] $Letter+ {200};
+";
+
+fn opened(text: &str, unit: Unit) -> Session {
+    Table::compile(RULES).unwrap().session(text, unit).unwrap()
+}
+
+fn ends(session: &mut Session) -> Vec<u32> {
+    session.segments().map(|segment| segment.end).collect()
+}
+
+#[test]
+fn segments_have_the_greatest_status_of_their_end() {
+    let segments: Vec<Segment> = opened("can't 32", Unit::Utf8).segments().collect();
+    let wanted = [(0, 5, 200), (5, 6, 0), (6, 8, 100)];
+    assert_eq!(
+        segments,
+        wanted.map(|(start, end, status)| Segment { start, end, status })
+    );
+}
+
+#[test]
+fn places_count_the_unit() {
+    let cases = [
+        (Unit::Chars, [1, 2, 3]),
+        (Unit::Utf16, [1, 3, 4]),
+        (Unit::Utf8, [2, 6, 7]),
+    ];
+    for (unit, places) in cases {
+        let mut session = opened("\u{e4}\u{1f600}b", unit);
+        assert_eq!(ends(&mut session), places);
+        assert_eq!(session.length(), places[2]);
+    }
+}
+
+#[test]
+fn each_question_moves_the_cursor() {
+    let mut session = opened("ab 12", Unit::Chars);
+    assert_eq!((session.first(), session.current()), (0, 0));
+    assert_eq!((session.last(), session.current()), (5, 5));
+    assert_eq!((session.status(), session.statuses()), (100, Ok(vec![100])));
+    assert_eq!(
+        (session.next(), session.previous(), session.next()),
+        (None, Some(3), Some(5))
+    );
+    assert_eq!(
+        (session.following(0), session.preceding(5)),
+        (Some(2), Some(3))
+    );
+    assert_eq!(
+        (session.preceding(0), session.following(u32::MAX)),
+        (None, None)
+    );
+    assert!(session.is_boundary(2) && !session.is_boundary(1));
+    assert_eq!(session.current(), 2);
+}
+
+#[test]
+fn edits_answer_as_a_new_session_over_the_new_text() {
+    let mut text = "ab'c 12 \u{e4}\u{1f600}".repeat(20);
+    let mut session = opened(&text, Unit::Utf8);
+    for step in 0..60 {
+        let places: Vec<usize> = text.char_indices().map(|(place, _)| place).collect();
+        let first = step * 7 % places.len();
+        let (at, end) = (
+            places[first],
+            places[(first + step % 3).min(places.len() - 1)],
+        );
+        let insert = ["", "x1'", "\u{e4}", "'"][step % 4];
+        session
+            .replace(at as u32, (end - at) as u32, insert)
+            .unwrap();
+        text.replace_range(at..end, insert);
+        assert_eq!(ends(&mut session), ends(&mut opened(&text, Unit::Utf8)));
+    }
+}
+
+#[test]
+fn refused_edits_change_nothing() {
+    let mut session = opened("a\u{1f600}", Unit::Utf16);
+    assert_eq!(session.replace(3, 1, "x"), Err(Error::Outside));
+    assert_eq!(session.replace(2, 0, "x"), Err(Error::Inside));
+    assert_eq!(session.length(), 3);
+    assert!(Error::Inside.to_string().contains("inside of a character"));
+}
+
+#[test]
+fn a_table_is_written_loaded_and_shared() {
+    let table = Table::compile(RULES).unwrap();
+    let file = table.write().unwrap();
+    let loaded = Table::load(&file).unwrap();
+    assert_eq!(loaded.write(), Ok(file));
+    let mut session = loaded
+        .share()
+        .unwrap()
+        .session("ab 12", Unit::Chars)
+        .unwrap();
+    assert_eq!(ends(&mut session), [2, 3, 5]);
+}
+
+#[test]
+fn the_library_has_four_tables() {
+    let cases: [(&str, &[u32]); 4] = [
+        ("grapheme", &[1, 3, 4]),
+        ("word", &[3, 4]),
+        ("sentence", &[4]),
+        ("line", &[4]),
+    ];
+    for (name, wanted) in cases {
+        let mut session = Table::named(name)
+            .unwrap()
+            .session("ae\u{301}.", Unit::Chars)
+            .unwrap();
+        assert_eq!(ends(&mut session), wanted, "{name}");
+    }
+    assert_eq!(Table::named("words").unwrap_err(), Error::Name);
+}
+
+#[test]
+fn a_fault_has_a_name_and_a_place() {
+    let Err(Error::Fault(fault)) = Table::compile("a;\n\u{e4} $;") else {
+        panic!()
+    };
+    assert_eq!(fault.to_string(), "2:3: BadName: no name follows");
+    assert_eq!(fault.byte, Some(6));
+    let Err(Error::Fault(fault)) = Table::load(b"RBBI") else {
+        panic!()
+    };
+    assert_eq!((fault.line, fault.column), (None, None));
+}
+
+#[test]
+fn property_files_are_used_and_their_faults_told() {
+    let mut files = Files::new().unwrap();
+    files.add("X", b"0061..0063 ; Y\n").unwrap();
+    let table = Table::compile_with(b"\\p{X=Y}+;", &mut files, false).unwrap();
+    assert_eq!(table.session("abcd", Unit::Chars).unwrap().next(), Some(3));
+    let Err(Error::Fault(fault)) = files.add("X", b"0061 ; Y\nno\n") else {
+        panic!()
+    };
+    assert_eq!((fault.name.as_str(), fault.line), ("BadRow", Some(2)));
+    assert_eq!(files.add("X\0", b""), Err(Error::Zero));
+}
+
+#[test]
+fn threads_share_a_table() {
+    let text = "can't 32.3. ".repeat(50);
+    let table = Table::named("word").unwrap();
+    let wanted = ends(&mut table.session(&text, Unit::Utf8).unwrap());
+    thread::scope(|scope| {
+        for _ in 0..4 {
+            scope.spawn(|| {
+                for _ in 0..20 {
+                    let mut session = table.session(&text, Unit::Utf8).unwrap();
+                    assert_eq!(ends(&mut session), wanted);
+                }
+            });
+        }
+    });
+}
+
+#[test]
+fn the_crate_has_the_version_of_the_library() {
+    assert_eq!(rbbi::version(), env!("CARGO_PKG_VERSION"));
+    assert!(rbbi::unicode_version().starts_with("18."));
+}
