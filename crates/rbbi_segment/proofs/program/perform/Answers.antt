@@ -8,11 +8,11 @@ use Rattle.rbbi_segment.specs.Annexes.{TakesLinesOf}
 use Rattle.rbbi_segment.proofs.Carried.{of_basis}
 use Rattle.rbbi_segment.proofs.program.perform.Goals as goal
 
-pub returns-in_Check : goal.returns-in_Check
-returns-in_Check g c = rw c.in-Check.is tt
+pub returns-in-Check : goal.returns-in-Check
+returns-in-Check g c = rw c.in-Check.is tt
 
-pub returns-in_Segment : goal.returns-in_Segment
-returns-in_Segment g c =
+pub returns : goal.returns
+returns g c =
     let request : Request = c.args.request.now in
     let contents : Option (List ℕ → List ℕ) = g.F.Files.contents c.args.files.now in
     let before : Option (List ℕ) = g.K.Sink.taken c.args.out.now in
