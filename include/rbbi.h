@@ -1,39 +1,37 @@
 /*
- * rbbi: text boundaries (characters, words, sentences, lines) by break rules, found again while the
- * text is edited. The engine is proved; docs/c.md leads from nothing to the words of a buffer.
+ * rbbi: text boundaries (characters, words, sentences, lines) by break rules, also while the text
+ * is edited. The engine is proved; docs/c.md is an introduction.
  *
  * HANDLES. A table, a session and a list of property files are each held by a handle: a struct of
  * one pointer that you own, on the stack or in a struct of yours. A handle begins as all zero:
  *
  *     rbbi_table table = RBBI_INIT;
  *
- * A call that opens puts something into a handle that holds nothing, and answers RBBI_HANDLE, and
- * leaves the handle as it is, where it holds something already. The close calls free what a handle
- * holds and make it all zero again; closing a handle that holds nothing does nothing. What no call
- * can see, and you must not do: pass the address of a struct that was never set, copy a handle and
- * use or close both copies, write to what is inside, or pass one address for two parameters.
+ * A call that opens fills an empty handle. If the handle isn't empty, the call answers RBBI_HANDLE
+ * and leaves it as it is. The close calls free what a handle holds and make it all zero again;
+ * closing an empty handle does nothing. No call can notice these mistakes: passing the address of a
+ * struct that was never set, using or closing two copies of a handle, writing to what is inside,
+ * and passing one address for two parameters.
  *
  * OWNERSHIP. A session keeps the table that it was opened with: tables are counted. So a table's
- * handle may be closed while sessions go on with the table, in any order. Texts, rules, files and
- * names that you pass are copied or read within the call, and stay yours. Nothing that is handed to
- * you has to be freed, but for handles, which are closed.
+ * handle may be closed while sessions use the table, in any order. Texts, rules, files and names
+ * that you pass are copied or read during the call, and stay yours. Only handles have to be closed;
+ * nothing else that you receive has to be freed.
  *
- * THREADS. Several threads may pass one table's handle to rbbi_table_share, rbbi_table_write and
- * rbbi_session_open at once: nothing changes a table, and these calls take turns, under a lock that
- * is the library's only state, just to count one more owner. Every other call has to have its handles
- * to itself: one thread at a time uses a session or a list of property files, and no thread uses a
- * handle while another opens or closes it. Sessions of one table may be used side by side. Handles may
- * move from thread to thread, under a lock or over a start or join of a thread.
+ * THREADS. No two calls may use one handle at the same time. So a session is used by one thread at
+ * a time, and so is a table's handle: rbbi_table_share gives each thread a handle of its own, and
+ * all of them share one table in memory. Handles may move from thread to thread, under a lock or
+ * when a thread starts or ends. All state is in handles.
  *
- * UNITS. All places, numbers and lengths of a session count the unit that it was opened in: bytes of
- * UTF-8, numbers of 16 bits of UTF-16, or characters (code points). They begin at 0. A text has at
- * most 16,777,216 characters.
+ * UNITS. All places and lengths of a session count the unit that it was opened in: bytes of UTF-8,
+ * 16-bit units of UTF-16, or characters (code points). They begin at 0. A text has at most
+ * 16,777,216 characters.
  *
- * ANSWERS. Each call but the close calls answers an int: RBBI_OK, RBBI_DONE, or an error. An error
- * leaves every handle and every number as it was, but that RBBI_FAULT writes the fault, and RBBI_ROOM
- * what has room and the length. No call ends the process, writes or reads a file, or waits, but for
- * the turns above. Opening, editing, compiling, loading and writing take memory. No question does:
- * that is in no contract, but by reading the code.
+ * ANSWERS. Each call but the close calls returns an int: RBBI_OK, RBBI_DONE, or an error. An error
+ * leaves every handle and every number as it was, with two exceptions: RBBI_FAULT writes the fault,
+ * and RBBI_ROOM writes the length and as much as fits. No call ends the process, writes or reads a
+ * file, or waits. Opening, editing, compiling, loading and writing allocate memory. Questions
+ * don't; that isn't proved, but seen by reading the code.
  */
 #ifndef RBBI_H
 #define RBBI_H
@@ -66,23 +64,23 @@ typedef struct rbbi_session {
 #define RBBI_INIT { NULL }
 /* clang-format on */
 
-/* What calls answer. */
+/* What calls return. */
 enum {
     RBBI_OK = 0,       /* done */
-    RBBI_DONE = 1,     /* done, and there is no such boundary; the number isn't written */
-    RBBI_NULL = 2,     /* a pointer is NULL that may not be */
-    RBBI_HANDLE = 3,   /* the handle holds nothing, or something of another kind; of a call that
-                          opens: it holds something already */
+    RBBI_DONE = 1,     /* there is no such boundary; the number isn't written */
+    RBBI_NULL = 2,     /* a pointer is NULL that must not be */
+    RBBI_HANDLE = 3,   /* the handle is empty or of another kind; of a call that opens: it isn't
+                          empty */
     RBBI_UNIT = 4,     /* the unit is none of the three */
     RBBI_OUTSIDE = 5,  /* the edit reaches past the end of the text */
-    RBBI_INSIDE = 6,   /* the edit begins or ends inside of a character */
+    RBBI_INSIDE = 6,   /* the edit begins or ends inside a character */
     RBBI_TOO_LONG = 7, /* a text would have more than 16,777,216 characters; a text, a table or a
                           property file has more than 100,663,296 bytes, or a rule file more than
                           1,048,576 */
     RBBI_NOT_UTF8 = 8, /* the bytes of a text or a name are not UTF-8 */
     RBBI_MEMORY = 9,   /* memory ran out */
-    RBBI_ROOM = 10,    /* the room is too small; its front is written, and the length is told */
-    RBBI_FAULT = 11,   /* rules, a property file or a table file have a fault, which is told */
+    RBBI_ROOM = 10,    /* the buffer is too small; a prefix and the length are written */
+    RBBI_FAULT = 11,   /* rules, a property file or a table file have a fault, which is written */
     RBBI_NAME = 12     /* the library has no table of this name */
 };
 
@@ -90,17 +88,16 @@ enum {
 enum {
     RBBI_CHARS = 0, /* characters: code points */
     RBBI_UTF8 = 1,  /* bytes of UTF-8 */
-    RBBI_UTF16 = 2  /* numbers of 16 bits of UTF-16 */
+    RBBI_UTF16 = 2  /* 16-bit units of UTF-16 */
 };
 
-/* A fault of rules, a property file or a table file, as RBBI_FAULT tells it. docs/rules.md and
-   docs/formats.md have all names, and rbbi_fault_message says in a sentence what each is. */
+/* A fault of rules, a property file or a table file. docs/rules.md and docs/formats.md have all
+   names. */
 typedef struct rbbi_fault {
-    char name[40];   /* its name, as "UnknownProperty", ended by a zero */
-    uint32_t line;   /* its line, from 1, or 0 where it has none */
-    uint32_t column; /* its column, in characters from 1, or 0 where it has none */
-    uint32_t byte;   /* its byte, from 0, or UINT32_MAX where it has none; of rules, where it has a
-                        line and a column, the byte there */
+    char name[40];   /* its name, such as "UnknownProperty", ended by a zero */
+    uint32_t line;   /* its line, from 1, or 0 if it has none */
+    uint32_t column; /* its column, in characters from 1, or 0 if it has none */
+    uint32_t byte;   /* its byte, from 0, or UINT32_MAX if it has none */
 } rbbi_fault;
 
 /* A sentence that says what an answer is. */
@@ -120,9 +117,8 @@ const char *rbbi_unicode_version(void);
 /* Starts a list of property files. */
 int rbbi_files_open(rbbi_files *files);
 
-/* Adds the rows of a file of the Unicode Character Database, or of its form, under the name of its
-   property, as "WB". RBBI_FAULT tells "NotUtf8" with the byte, or "BadRow" with the line. `fault`
-   may be NULL. */
+/* Adds the rows of a file in the form of the Unicode Character Database under a property name, such
+   as "WB". RBBI_FAULT: "NotUtf8" with the byte, or "BadRow" with the line. `fault` may be NULL. */
 int rbbi_files_add(rbbi_files *files, const char *property, const void *bytes, size_t length,
                    rbbi_fault *fault);
 
@@ -130,75 +126,77 @@ void rbbi_files_close(rbbi_files *files);
 
 /* ---- tables ---- */
 
-/* Compiles the rules of a rule file in UTF-8. `files` may be NULL: then there are no property files.
-   Where `ignore_dictionary` isn't 0, $dictionary is ignored. RBBI_FAULT tells the first fault with
-   its line and column, or with neither where the table would be too large; `fault` may be NULL. */
+/* Compiles the rules of a rule file in UTF-8. `files` may be NULL: then there are no property
+   files. If `ignore_dictionary` isn't 0, $dictionary may be assigned. RBBI_FAULT: the first fault
+   with its line and column, or with neither if the table would be too large. `fault` may be NULL.
+   */
 int rbbi_table_compile(rbbi_table *table, rbbi_files *files, const void *rules, size_t length,
                        int ignore_dictionary, rbbi_fault *fault);
 
-/* Loads the table of a table file. RBBI_FAULT tells the first fault of bytes that are none, and its
-   byte where it has one; `fault` may be NULL. A damaged file is refused or is a valid table. */
+/* Loads the table of a table file. RBBI_FAULT: the first fault, with its byte if it has one.
+   `fault` may be NULL. A damaged file is refused or is a valid table. */
 int rbbi_table_load(rbbi_table *table, const void *bytes, size_t length, rbbi_fault *fault);
 
-/* Loads a table that is in the library: "grapheme", "word" or "sentence" of UAX #29, or "line" of
-   UAX #14, over Unicode 18.0. */
+/* Loads a built-in table: "grapheme", "word" or "sentence" of UAX #29, or "line" of UAX #14, over
+   Unicode 18.0. */
 int rbbi_table_named(rbbi_table *table, const char *name);
 
-/* Makes `other` one more handle of the table. */
+/* Makes `other` another handle of the table. */
 int rbbi_table_share(rbbi_table *other, rbbi_table *table);
 
-/* Writes the table's file into `room`, of `size` bytes, and its length to `length`. RBBI_ROOM: the
-   file is longer; `length` has its length. `room` may be NULL where `size` is 0. */
+/* Writes the table file into `room`, of `size` bytes, and its length to `length`. RBBI_ROOM: the
+   file is longer. `room` may be NULL if `size` is 0. */
 int rbbi_table_write(rbbi_table *table, void *room, size_t size, size_t *length);
 
 void rbbi_table_close(rbbi_table *table);
 
 /* ---- sessions ---- */
 
-/* Opens a session over a text in UTF-8, with places in `unit`. The cursor is at 0. `text` may be
-   NULL where `length`, in bytes, is 0. */
+/* Opens a session over a text in UTF-8 of `length` bytes, with places in `unit`. The cursor is at
+   0. `text` may be NULL if `length` is 0. */
 int rbbi_session_open(rbbi_session *session, rbbi_table *table, const char *text, size_t length,
                       int unit);
 
 void rbbi_session_close(rbbi_session *session);
 
-/* Puts the `length` bytes of UTF-8 at `insert` in place of `remove` units from `at` on, and the
-   cursor at 0. It costs what the edit touches, and not what the text has. */
+/* Replaces `remove` units from `at` on by the `length` bytes of UTF-8 at `insert`, and sets the
+   cursor to 0. The cost depends on what the edit touches, not on the length of the text. */
 int rbbi_session_replace(rbbi_session *session, uint32_t at, uint32_t remove, const char *insert,
                          size_t length);
 
 /* The length of the text. */
 int rbbi_session_length(rbbi_session *session, uint32_t *length);
 
-/* ---- questions: each answers as a scan of the whole text as it is gives it, and moves the cursor to
-   the boundary that is told; RBBI_DONE where there is none ---- */
+/* ---- questions: each answer is that of a scan of the whole text as it is. The cursor moves to the
+   boundary that is written. RBBI_DONE if there is none ---- */
 
 /* The first boundary, which is 0, and the last, which is the length. */
 int rbbi_session_first(rbbi_session *session, uint32_t *place);
 int rbbi_session_last(rbbi_session *session, uint32_t *place);
 
-/* The boundary behind the cursor, and before it. After RBBI_DONE the cursor is where it was: at the
-   end of the text, or at 0. */
+/* The next boundary after the cursor, and the last one before it. After RBBI_DONE the cursor is
+   where it was: at the end of the text, or at 0. */
 int rbbi_session_next(rbbi_session *session, uint32_t *place);
 int rbbi_session_previous(rbbi_session *session, uint32_t *place);
 
-/* The first boundary past `from`, and the last one before it. `from` may be inside of a character,
-   or past the end of the text. After RBBI_DONE the cursor is at the end, or at 0. */
+/* The first boundary after `from`, and the last one before it. `from` may be inside a character or
+   past the end of the text. After RBBI_DONE the cursor is at the end, or at 0. */
 int rbbi_session_following(rbbi_session *session, uint32_t from, uint32_t *place);
 int rbbi_session_preceding(rbbi_session *session, uint32_t from, uint32_t *place);
 
-/* Whether `at` is a boundary: 1 or 0. The cursor goes to the first boundary that isn't before `at`,
-   or to the end of the text. */
+/* Whether `at` is a boundary: 1 or 0. The cursor moves to the first boundary that isn't before
+   `at`, or to the end of the text. */
 int rbbi_session_is_boundary(rbbi_session *session, uint32_t at, uint32_t *is);
 
 /* Where the cursor is. */
 int rbbi_session_current(rbbi_session *session, uint32_t *place);
 
-/* The greatest status of the boundary at the cursor. */
+/* The largest status of the boundary at the cursor. */
 int rbbi_session_status(rbbi_session *session, uint32_t *status);
 
-/* The statuses of the boundary at the cursor, which rise, into `room` of `size` numbers, and how
-   many there are to `count`. RBBI_ROOM: there are more. `room` may be NULL where `size` is 0. */
+/* Writes the statuses of the boundary at the cursor, in increasing order, into `room` of `size`
+   numbers, and how many there are to `count`. RBBI_ROOM: there are more. `room` may be NULL if
+   `size` is 0. */
 int rbbi_session_statuses(rbbi_session *session, uint32_t *room, size_t size, size_t *count);
 
 #ifdef __cplusplus
