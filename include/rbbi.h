@@ -18,10 +18,12 @@
  * that you pass are copied or read during the call, and stay yours. Only handles have to be closed;
  * nothing else that you receive has to be freed.
  *
- * THREADS. No two calls may use one handle at the same time. So a session is used by one thread at
- * a time, and so is a table's handle: rbbi_table_share gives each thread a handle of its own, and
- * all of them share one table in memory. Handles may move from thread to thread, under a lock or
- * when a thread starts or ends. All state is in handles.
+ * THREADS. Several threads may pass one table's handle to rbbi_table_share, rbbi_table_write and
+ * rbbi_session_open at once: nothing changes a table. These calls take turns, under a lock that is
+ * the library's only state, just to count one more owner. All other calls need their handles to
+ * themselves: one thread at a time uses a session or a list of property files, and no thread uses a
+ * handle while another opens or closes it. Sessions of one table may be used side by side. Handles
+ * may move from thread to thread, under a lock or when a thread starts or ends.
  *
  * UNITS. All places and lengths of a session count the unit that it was opened in: bytes of UTF-8,
  * 16-bit units of UTF-16, or characters (code points). They begin at 0. A text has at most
@@ -30,8 +32,8 @@
  * ANSWERS. Each call but the close calls returns an int: RBBI_OK, RBBI_DONE, or an error. An error
  * leaves every handle and every number as it was, with two exceptions: RBBI_FAULT writes the fault,
  * and RBBI_ROOM writes the length and as much as fits. No call ends the process, writes or reads a
- * file, or waits. Opening, editing, compiling, loading and writing allocate memory. Questions
- * don't; that isn't proved, but seen by reading the code.
+ * file, or waits, but for the turns above. Opening, editing, compiling, loading and writing
+ * allocate memory. Questions don't; that isn't proved, but seen by reading the code.
  */
 #ifndef RBBI_H
 #define RBBI_H
@@ -92,12 +94,13 @@ enum {
 };
 
 /* A fault of rules, a property file or a table file. docs/rules.md and docs/formats.md have all
-   names. */
+   names, and rbbi_fault_message gives a sentence for each. */
 typedef struct rbbi_fault {
     char name[40];   /* its name, such as "UnknownProperty", ended by a zero */
     uint32_t line;   /* its line, from 1, or 0 if it has none */
     uint32_t column; /* its column, in characters from 1, or 0 if it has none */
-    uint32_t byte;   /* its byte, from 0, or UINT32_MAX if it has none */
+    uint32_t byte;   /* its byte, from 0, or UINT32_MAX if it has none; of rules, the byte at the
+                        line and column */
 } rbbi_fault;
 
 /* A sentence that says what an answer is. */

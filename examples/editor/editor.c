@@ -1,6 +1,6 @@
 /*
  * A small editor: editor FILE. It moves by grapheme, word and sentence, wraps lines where they may
- * break, and colours words by their status. docs/editor.md has its keys and a screen.
+ * break, and colours words by their status. examples/editor/README.md has its keys and a screen.
  *
  * There is one buffer, and over it a session for each table of the library; each edit goes to all
  * four. Places count bytes of UTF-8.
