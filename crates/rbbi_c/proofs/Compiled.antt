@@ -8,7 +8,7 @@ use Rattle.rbbi_command.specs.Refusals.{place_in}
 use Rattle.rbbi_compile.specs.declared.error.CompileErr.{CompileErr}
 use Rattle.rbbi_compile.specs.Errors.{label_of, place_of}
 use Rattle.rbbi_compile.specs.Rules.{text_of}
-use Rattle.rbbi_compile.specs.Tables.{HasFault}
+use Rattle.rbbi_builtin.specs.Compiling.{HasFaultOver}
 use Rattle.rbbi_c.specs.Faults.{Told}
 use Rattle.rbbi_c.specs.Compiling.{HasFaultAt, IsCompiledFrom, IsNotCompiled, IsCompiledBy, IsNotCompiledBy}
 
@@ -21,12 +21,12 @@ by_none ignored bytes before after (Err code) refused = inr refused
 
 -- the fault of a text is one of the bytes that spell it
 pub fault_of_text : (files : List File) (ignored : Bool) (bytes x : List ℕ) (error : CompileErr) (place : Place) → IsUtf8 bytes → x ≡ text_of bytes
-    → HasFault files ignored x error → place ≡ place_in x (place_of error) → HasFaultAt files ignored bytes (label_of error) place
+    → HasFaultOver files ignored x error → place ≡ place_in x (place_of error) → HasFaultAt files ignored bytes (label_of error) place
 fault_of_text files ignored bytes x error place utf8 spelled has at =
     inr (
       utf8,
       error,
-      subst (λ (y : List ℕ). HasFault files ignored y error) spelled has,
+      subst (λ (y : List ℕ). HasFaultOver files ignored y error) spelled has,
       refl,
       subst (λ (y : List ℕ). place ≡ place_in y (place_of error)) spelled at,
     )

@@ -13,7 +13,7 @@ use Rattle.rbbi_command.specs.Refusals.{place_in}
 use Rattle.rbbi_compile.specs.declared.error.CompileErr.{CompileErr}
 use Rattle.rbbi_compile.specs.Errors.{label_of, place_of}
 use Rattle.rbbi_compile.specs.Rules.{text_of}
-use Rattle.rbbi_compile.specs.Tables.{CompilesTo, HasFault}
+use Rattle.rbbi_builtin.specs.Compiling.{CompilesOver, HasFaultOver}
 use Rattle.rbbi_c.specs.Calls.{IsNoText, IsWrongHandle}
 use Rattle.rbbi_c.specs.Faults.{Told, IsTold}
 use Rattle.rbbi_c.specs.Holding.{files_in, HoldsSomething}
@@ -43,13 +43,13 @@ IsAdded old name bytes code before after new =
 
 -- the table is compiled from the rules of the bytes, and no fault is told
 abbrev pub IsCompiledFrom : List File → Bool → List ℕ → Told → Told → BreakTable → Type 0
-IsCompiledFrom files ignored bytes before after table = IsUtf8 bytes × CompilesTo files ignored (text_of bytes) table × (after ≡ before)
+IsCompiledFrom files ignored bytes before after table = IsUtf8 bytes × CompilesOver files ignored (text_of bytes) table × (after ≡ before)
 
 -- the first fault of the bytes, its name and its place: they aren't UTF-8, or their text has a fault
 abbrev pub HasFaultAt : List File → Bool → List ℕ → List ℕ → Place → Type 0
 HasFaultAt files ignored bytes label place =
     ((at : ℕ) × IsNotUtf8At bytes at × (label ≡ codes "NotUtf8") × (place ≡ Byte at))
-    ⊎ (IsUtf8 bytes × (error : CompileErr) × HasFault files ignored (text_of bytes) error × (label ≡ label_of error)
+    ⊎ (IsUtf8 bytes × (error : CompileErr) × HasFaultOver files ignored (text_of bytes) error × (label ≡ label_of error)
     × (place ≡ place_in (text_of bytes) (place_of error)))
 
 -- the rules of the bytes have a fault, the first of which is told

@@ -10,8 +10,9 @@ use crate::codes;
 use crate::faults::Fault;
 use crate::handle::Handle;
 use crate::held::Held;
+use rbbi_builtin::compile_over;
 use rbbi_command::{Place, place_in};
-use rbbi_compile::{CompileErr, compile, rule_text};
+use rbbi_compile::{CompileErr, rule_text};
 use rbbi_props::{PropErr, PropTable};
 use rbbi_table::Table;
 use rbbi_text::MOST_BYTES;
@@ -40,28 +41,29 @@ fn add_file(
     }
 }
 
-/// The table of the bytes of a rule file, with property files, or the code of the refusal. A fault
-/// is told.
+/// The table of the bytes of a rule file, over property files and what is built in, or the code of
+/// the refusal. A fault is told.
 fn compiled(
     alloc: Global,
     bytes: &[u8],
-    files: &PropTable,
+    files: &mut PropTable,
     ignored: bool,
     fault: &mut Fault,
     name: &mut [u8],
 ) -> Result<Table, u32>
     requires { length bytes.now ≤ most_bytes }
-    ensures { MatchResult result
-        (IsCompiledFrom files.now ignored bytes.now (told fault.old name.old)
+    ensures told { MatchResult result
+        (IsCompiledFrom files.old ignored bytes.now (told fault.old name.old)
         (told fault.new name.new))
-        (IsNotCompiled files.now ignored bytes.now (told fault.old name.old)
+        (IsNotCompiled files.old ignored bytes.now (told fault.old name.old)
         (told fault.new name.new)) }
+    ensures same { files.new ≡ files.old }
 {
     let text = match rule_text(bytes) {
         Ok(text) => text,
         Err(at) => return Err(fault.tell("NotUtf8", Place::Byte(at), name)),
     };
-    match compile(alloc, text, files, ignored) {
+    match compile_over(alloc, text, files, ignored) {
         Ok(table) => Ok(table),
         Err(CompileErr::Memory) => Err(codes::MEMORY),
         Err(error) => Err(fault.tell(error.label(), place_in(text, error.place()), name)),
@@ -105,18 +107,19 @@ pub(crate) fn add_through(
 /// The table of the rules, by the property files in a box.
 fn compiled_with(
     alloc: Global,
-    held: &Held,
+    held: &mut Held,
     rules: &[u8],
     ignored: bool,
     fault: &mut Fault,
     name: &mut [u8],
 ) -> Result<Table, u32>
     requires { length rules.now ≤ most_bytes }
-    ensures { MatchResult result
-        (IsCompiledBy (Some held.now) ignored rules.now (told fault.old name.old)
+    ensures told { MatchResult result
+        (IsCompiledBy (Some held.old) ignored rules.now (told fault.old name.old)
         (told fault.new name.new))
-        (IsNotCompiledBy (Some held.now) ignored rules.now (told fault.old name.old)
+        (IsNotCompiledBy (Some held.old) ignored rules.now (told fault.old name.old)
         (told fault.new name.new)) }
+    ensures same { held.new ≡ held.old }
 {
     match held {
         Held::Properties(files) => compiled(alloc, rules, files, ignored, fault, name),
@@ -145,14 +148,14 @@ pub(crate) fn compiled_by(
         return Err(codes::TOO_LONG);
     }
     match files.take(alloc) {
-        Some(held) => {
-            let table = compiled_with(alloc, &held, rules, ignored, fault, name);
+        Some(mut held) => {
+            let table = compiled_with(alloc, &mut held, rules, ignored, fault, name);
             files.put(alloc, held);
             table
         }
         None => {
-            let none = PropTable::new(alloc);
-            compiled(alloc, rules, &none, ignored, fault, name)
+            let mut none = PropTable::new(alloc);
+            compiled(alloc, rules, &mut none, ignored, fault, name)
         }
     }
 }

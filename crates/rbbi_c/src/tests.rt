@@ -39,7 +39,7 @@ const NO_FAULT: Fault = Fault {
 fn rules_make_a_table_or_a_fault(rt: HostRuntime) {
     let mut fault = NO_FAULT;
     let mut name = [0; 4];
-    let (table, code) = compiled(&rt, b"\\p{X=Y}+{7};\n.;", &mut fault, &mut name);
+    let (table, code) = compiled(&rt, b"\\p{X=Y}+{7};\n\\p{WB=LE};", &mut fault, &mut name);
     assert_eq!(rt; code, codes::OK);
     done(&rt, table);
     // A dollar sign with no name behind it, at the second character of the second line.

@@ -16,4 +16,4 @@ returns-in-None-clause-told c =
     (by_none ignored rules before after c.compiled.result
     (subst (λ (files : List File). MatchResult c.compiled.result (IsCompiledFrom files ignored rules before after) (IsNotCompiled files ignored rules before
     after))
-    c.new-none.ensures c.compiled.ensures))
+    c.new-none.ensures c.compiled.ensures.told))
