@@ -130,8 +130,9 @@ void rbbi_files_close(rbbi_files *files);
 /* ---- tables ---- */
 
 /* Compiles the rules of a rule file in UTF-8. `files` may be NULL: then there are no property
-   files. If `ignore_dictionary` isn't 0, $dictionary may be assigned. RBBI_FAULT: the first fault
-   with its place, or without if the table would be too large. `fault` may be NULL. */
+   files. A property with a value and without a file is that of Unicode 18.0, if docs/rules.md lists
+   it. If `ignore_dictionary` isn't 0, $dictionary may be assigned. RBBI_FAULT: the first fault with
+   its place, or without if the table would be too large. `fault` may be NULL. */
 int rbbi_table_compile(rbbi_table *table, rbbi_files *files, const void *rules, size_t length,
                        int ignore_dictionary, rbbi_fault *fault);
 
