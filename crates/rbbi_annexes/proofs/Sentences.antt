@@ -1,5 +1,6 @@
 -- The monitor of the rules on sentences.
-use Rattle.std.proofs.Common.{◌≡◌, ℕ, ◌+◌, ◌/◌, ◌%◌, Bool, true, false, not, ◌&&◌, ◌||◌, eqb, leb, List, [], ◌∷◌, Option, Some, None, map, get_or, sym, refl, ap, ap₂, ◌∙◌, cond}
+use Rattle.std.proofs.Common.{◌≡◌, ℕ, ◌+◌, ◌/◌, ◌%◌, Bool, true, false, not, ◌&&◌, ◌||◌, eqb, leb}
+use Rattle.std.proofs.Common.{List, [], ◌∷◌, Option, Some, None, map, get_or, sym, refl, ap, ap₂, ◌∙◌, cond}
 use Rattle.std.specs.Prelude.{unwrap_or}
 use Rattle.std.specs.Bool.{beq}
 use Rattle.std.proofs.lemmas.Bool.{and_parts, eqb-true, false≢true}
@@ -9,7 +10,8 @@ use Rattle.ucd_breaks.specs.SentenceBreak.{sentence_break, sentence_break_number
 use Rattle.ucd_breaks.specs.declared.SentenceBreak.{SentenceBreak}
 use Rattle.ucd_breaks.specs.declared.SentenceBreak.TheVariants.{Extend, Format, Other}
 use Rattle.ucd_breaks.proofs.SentenceBreakLemmas.{sentence_break_stepped, sentence_break_number_injective}
-use Rattle.unicode_segmentation.specs.Sentence.{break_by_pair, is_ignored, is_para_sep, is_sa_term, is_a_term, is_cased, is_letter, is_lower, is_upper, is_numeric, is_close, is_sp, is_s_continue}
+use Rattle.unicode_segmentation.specs.Sentence.{break_by_pair, is_ignored, is_para_sep, is_sa_term, is_a_term, is_cased}
+use Rattle.unicode_segmentation.specs.Sentence.{is_letter, is_lower, is_upper, is_numeric, is_close, is_sp, is_s_continue}
 use Rattle.unicode_segmentation.specs.Sentence.{significant, skip, value_at, before_close, before_close_sp, reaches_lower, joins, is_sentence_break}
 use Rattle.rbbi_model.specs.Words.{IsCharacter, IsText}
 use Rattle.rbbi_annexes.specs.Statuses.{sentence_status}

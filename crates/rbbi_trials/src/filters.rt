@@ -302,7 +302,8 @@ fn first_other<S: Walk, L: Ledger>(
     Ok(None)
 }
 
-/// The same of a session past abbreviations, which keeps this predicate of them.
+/// The first command to which a session past abbreviations, with this predicate of them, replies
+/// otherwise than the model.
 fn first_other_filtered<P: Predicate + Drop, L: Ledger>(
     alloc: Global,
     text: Pieces,
@@ -319,7 +320,8 @@ fn first_other_filtered<P: Predicate + Drop, L: Ledger>(
     first_other(alloc, &mut session, model, commands, steps)
 }
 
-/// The same of a session that turns characters, which keeps this map of them.
+/// The first command to which a session over mapped characters, with this map of them, replies
+/// otherwise than the model.
 fn first_other_tailored<G: CharMap + Drop, L: Ledger>(
     alloc: Global,
     text: Pieces,
