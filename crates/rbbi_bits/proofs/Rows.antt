@@ -75,8 +75,7 @@ words_meet these those k some small =
     (sym (has_bit_and (get_or these k 0) (get_or those k 0) bit.0) ∙ bit.2) in
     (64 * k + bit.0, word_bit these k bit.0 bit.1 ∙ both.0, word_bit those k bit.0 bit.1 ∙ both.1)
 
-pub words_apart : (these those : List ℕ) → ((k : ℕ) → bit_and (get_or these k 0) (get_or those k 0) ≡ 0) →
-    (place : ℕ) → Holds these place → ¬ Holds those place
+pub words_apart : (these those : List ℕ) → ((k : ℕ) → bit_and (get_or these k 0) (get_or those k 0) ≡ 0) → (place : ℕ) → Holds these place → ¬ Holds those place
 words_apart these those each place holds = λ holds'.
     let both = has_bit_and (get_or these (place / 64) 0) (get_or those (place / 64) 0) (place % 64) in
     let zero = ap (λ n. has_bit n (place % 64)) (each (place / 64)) ∙ no_bit (place % 64) in

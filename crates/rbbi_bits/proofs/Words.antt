@@ -18,8 +18,7 @@ whole row to all = record {
 -- outside of a span a word stays, and there the other is 0
 pub or_within : (row old other : List ℕ) (from to i : ℕ) → IsSpan other from to → to ≤ i →
     ((k : ℕ) → from ≤ k → k < i → get_or row k 0 ≡ bit_or (get_or old k 0) (get_or other k 0)) →
-    ((k : ℕ) → (k < from) ⊎ (i ≤ k) → get_or row k 0 ≡ get_or old k 0) →
-    (k : ℕ) → get_or row k 0 ≡ bit_or (get_or old k 0) (get_or other k 0)
+    ((k : ℕ) → (k < from) ⊎ (i ≤ k) → get_or row k 0 ≡ get_or old k 0) → (k : ℕ) → get_or row k 0 ≡ bit_or (get_or old k 0) (get_or other k 0)
 or_within row old other from to i span all inside outside k =
     let kept : get_or other k 0 ≡ 0 → get_or row k 0 ≡ get_or old k 0 → get_or row k 0 ≡ bit_or (get_or old k 0) (get_or other k 0) =
     λ none same. same ∙ sym (or_zero_r (get_or old k 0)) ∙ ap (λ n. bit_or (get_or old k 0) n) (sym none) in

@@ -29,8 +29,7 @@ pub struct NumberedRows {
     rows: Vec<Vec<u64>>,
     /// For each bucket the number of its newest row plus 1, and 0 where it has none.
     newest: Vec<u16>,
-    /// For each row the number plus 1 of the newest older one in its bucket, and 0 where there is
-    /// none.
+    /// For each row the number plus 1 of the newest older one in its bucket, or 0.
     older: Vec<u16>,
 }
 

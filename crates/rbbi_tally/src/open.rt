@@ -1,5 +1,5 @@
 //! All segments of a text.
-ghost use Rattle.std.specs.Prelude.{◌≡◌, ◌+◌, ◌≤◌, ◌<◌, ◌++◌, [], ℕ, length, IfOk, slice_index};
+ghost use Rattle.std.specs.Prelude.{◌≡◌, ◌+◌, ◌≤◌, ◌<◌, ◌++◌, [], ℕ, length, IfOk, OnErr, slice_index};
 ghost use Rattle.rbbi_model.specs.Words.{most_characters};
 ghost use Rattle.rbbi_text.specs.Steps.{RisesUpTo};
 ghost use Rattle.rbbi_tally.specs.Costs.{opening_cost};
@@ -7,7 +7,7 @@ ghost use Rattle.rbbi_tally.specs.inner.Segments.{AreSegments};
 ghost use Rattle.rbbi_tally.specs.inner.Pieces.{segments_in, IsPiece};
 ghost use Rattle.rbbi_tally.specs.inner.Counting.{IsRecounted};
 ghost use Rattle.rbbi_tally.specs.inner.Tallied.{IsTallied};
-ghost use Rattle.rbbi_tally.specs.inner.Opening.{FillsPiece, ReadsPiece};
+ghost use Rattle.rbbi_tally.specs.inner.Opening.{FillsPiece};
 
 use crate::piece::{FILLED, FULL, Piece};
 use crate::search::search_from;
@@ -24,7 +24,7 @@ pub(crate) struct Opened {
     pub(crate) marks: FrontPlaces,
 }
 
-/// A piece, and the boundary behind it.
+/// A piece, and the boundary after it.
 #[derive(Drop)]
 struct Filled {
     piece: Piece,
@@ -48,7 +48,7 @@ fn fill<T: Chars, L: Ledger>(
         slice_index counts.old list ≤ start }
     ensures filled { IfOk result (λ filled. FillsPiece table.now (T.characters text.now) start
         filled.piece filled.next counts.old counts.new steps.old steps.new) }
-    ensures err { ReadsPiece result steps.old steps.new }
+    ensures err { OnErr result (steps.new ≡ steps.old) }
     ensures fit { marks.new ≡ marks.old }
 {
     let len = text.len();

@@ -7,13 +7,13 @@ ghost use Rattle.rbbi_tally.specs.Tallies.{boundaries_of, EditAnswers, EditReads
 
 use crate::commit::commit;
 use crate::counts::{Counts, count_of, total, values_of};
-use crate::edit::{Edit, inserted_by};
+use crate::edit::Edit;
 use crate::open::{Opened, segments_of};
 use crate::piece::Piece;
 use crate::search::search_again;
 use crate::spot::{first_reaching, place_at};
 use rbbi_table::{FrontPlaces, Table};
-use rbbi_text::{EditErr, EditText, Steps};
+use rbbi_text::{EditErr, EditText, Steps, check_edit};
 use std::alloc::{AllocError, Global};
 use std::marker::Model;
 use std::sync::ledger::Ledger;
@@ -24,7 +24,7 @@ use std::sync::ledger::Ledger;
 /// The boundaries are kept by pieces of at most 2,048, each with its status list and with how far
 /// the search from there looked. So an edit searches from the first boundary whose search looked
 /// past the edit's place, up to where the boundaries are old ones moved. It moves the segments of
-/// the pieces that it touches, and one number for each piece behind. It takes eight bytes a
+/// the pieces that it touches, and one number for each piece after. It takes eight bytes a
 /// boundary, and room for 512 further ones with each 1,536.
 #[derive(Drop)]
 pub struct Tally<'a, T: EditText> {
@@ -46,10 +46,7 @@ impl<'a, T: EditText> Model for Tally<'a, T> {
 
     ghost use Rattle.rbbi_tally.specs.inner.Tallied.{IsTallied};
 
-    ghost view = { λ tally. record {
-      table = tally.table.now;
-      text = T.characters tally.text;
-    } };
+    ghost view = { λ tally. record { table = tally.table.now; text = T.characters tally.text } };
 
     ghost invariant = { λ tally. IsTallied tally.table.now (T.characters tally.text)
         tally.pieces.items tally.counts.items tally.marks };
@@ -89,7 +86,7 @@ impl<'a, T: EditText + Drop> Tally<'a, T> {
 
 impl<'a, T: EditText> Tally<'a, T> {
     /// Puts the characters of `insert` in place of `remove` characters from `at` on, and counts
-    /// anew what that touches.
+    /// again what that touches.
     ///
     /// Refuses `Outside` if the text has fewer than `at + remove` characters, and otherwise
     /// `TooLong` if it would have more than 16,777,216 characters. After a refusal, also for
@@ -108,7 +105,7 @@ impl<'a, T: EditText> Tally<'a, T> {
     {
         self.table.valid();
         let end = self.text.len();
-        let inserted = inserted_by(end, at, remove, insert)?;
+        let inserted = check_edit(end as usize, at, remove, insert)?;
         let edit = Edit {
             at,
             removed: remove,

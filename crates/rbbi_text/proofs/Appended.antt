@@ -1,6 +1,5 @@
 -- Fronts of lines that were appended.
-use Rattle.std.proofs.Common.{◌≡◌, ℕ, suc, ◌<◌, length, take, drop, get_or, List, ◌∷◌, ◌++◌, Result, Ok, Err, ap, sym, ◌∙◌, append_assoc}
-use Rattle.std.proofs.Common.{drop-cons}
+use Rattle.std.proofs.Common.{◌≡◌, ℕ, suc, ◌<◌, length, take, drop, get_or, List, ◌∷◌, ◌++◌, Result, Ok, Err, ap, sym, ◌∙◌, append_assoc, drop-cons}
 use Rattle.std.specs.List.{flat_map}
 use Rattle.std.proofs.lemmas.List.{take-append-drop}
 use Rattle.std.proofs.lemmas.Grind.{flat_map-append}
@@ -28,11 +27,10 @@ front_later old first second line middle new m e h = record {
 -- a second call after one that appended all
 pub appends_then : {T E : Type 0} (old first second line middle new : List ℕ) (r : Result T E) → middle ≡ old ++ first → line ≡ first ++ second →
     Appends middle second r new → Appends old line r new
-appends_then old first second line middle new (Ok done) m e h =
-    h ∙ ap (λ x. x ++ second) m ∙ append_assoc old first second ∙ ap (λ x. old ++ x) (sym e)
+appends_then old first second line middle new (Ok done) m e h = h ∙ ap (λ x. x ++ second) m ∙ append_assoc old first second ∙ ap (λ x. old ++ x) (sym e)
 appends_then old first second line middle new (Err error) m e h = front_later old first second line middle new m e h
 
--- what is written of the numbers before one, of the one, and of those behind it
+-- what is written of the numbers before one, of the one, and of those after it
 pub flat_parts : (f : ℕ → List ℕ) (ns : List ℕ) (i d : ℕ) → i < length ns → flat_map f ns ≡ flat_map f (take i ns) ++
     (f (get_or ns i d) ++ flat_map f (drop (suc i) ns))
 flat_parts f ns i d l =

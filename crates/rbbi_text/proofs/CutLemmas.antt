@@ -1,7 +1,6 @@
 -- Pieces of a text: what stands where, and what an edit of some of them makes of all.
-use Rattle.std.proofs.Common.{◌≡◌, ℕ, zero, suc, ◌+◌, ◌-◌, ◌*◌, ◌/◌, ◌<◌, ◌≤◌, min, List, [], ◌∷◌, ◌++◌, map, length, get_or, set, take, drop, refl}
-use Rattle.std.proofs.Common.{ap}
-use Rattle.std.proofs.Common.{sym, ◌∙◌, subst, arith, length-append, length-take, length-drop, append_assoc, append-nil, ◌⊎◌, inl, inr, ⊎_elim}
+use Rattle.std.proofs.Common.{◌≡◌, ℕ, zero, suc, ◌+◌, ◌-◌, ◌*◌, ◌/◌, ◌<◌, ◌≤◌, min, List, [], ◌∷◌, ◌++◌, map, length, get_or, set, take, drop, refl, ap, sym}
+use Rattle.std.proofs.Common.{◌∙◌, subst, arith, length-append, length-take, length-drop, append_assoc, append-nil, ◌⊎◌, inl, inr, ⊎_elim}
 use Rattle.std.specs.List.{AllByRecursion}
 use Rattle.std.specs.Prelude.{Bool, true, false, MatchBool}
 use Rattle.std.proofs.lemmas.Bool.{cases_lt, false≢true}
@@ -12,8 +11,7 @@ use Rattle.rbbi_model.specs.Spelling.{joined}
 use Rattle.rbbi_model.specs.Scripts.{splice}
 use Rattle.rbbi_model.proofs.Lists.{all_append}
 use Rattle.rbbi_text.specs.Cuts.{starts_from, IsFilled, AreFilled, ArePieces, AreCut}
-use Rattle.rbbi_text.specs.inner.Cuts.{AreSoFar, HaveRoom, IsIn, shifted, pieces_with, starts_with_new}
-use Rattle.rbbi_text.specs.inner.Cuts.{edited_piece, AreWholeCut, IsFound, IsMiddle}
+use Rattle.rbbi_text.specs.inner.Cuts.{AreSoFar, HaveRoom, IsIn, shifted, pieces_with, starts_with_new, edited_piece, AreWholeCut, IsFound, IsMiddle}
 use Rattle.rbbi_text.proofs.Splices.{length-splice, text-splice}
 
 -- joined pieces
@@ -35,11 +33,11 @@ cut_more ps rest all k is =
 pub parted : (ps : List (List ℕ)) (k : ℕ) → joined ps ≡ joined (take k ps) ++ joined (drop k ps)
 parted ps k = ap joined (sym (take-append-drop k ps)) ∙ joined-append (take k ps) (drop k ps)
 
--- a piece, and those before and behind it
+-- a piece, and those before and after it
 pub piece_at : (ps : List (List ℕ)) (k : ℕ) → k < length ps → joined (drop k ps) ≡ get_or ps k [] ++ joined (drop (k + 1) ps)
 piece_at ps k short = ap joined (drop_more ps k [] short)
 
--- lengths: before, in and behind a piece
+-- lengths: before, in and after a piece
 pub length_parted : (ps : List (List ℕ)) (k : ℕ) → length (joined ps) ≡ length (joined (take k ps)) + length (joined (drop k ps))
 length_parted ps k = ap length (parted ps k) ∙ length-append (joined (take k ps)) (joined (drop k ps))
 
@@ -64,8 +62,7 @@ starts-append n (x ∷ xs) ys =
 pub start_is : (n : ℕ) (ps : List (List ℕ)) (k : ℕ) → k < length ps → get_or (starts_from n ps) k 0 ≡ n + length (joined (take k ps))
 start_is n [] k short = absurd (omega (arith, short))
 start_is n (p ∷ ps) zero short = omega arith
-start_is n (p ∷ ps) (suc k) short =
-    start_is (n + length p) ps k (omega (arith, short)) ∙ omega (arith, length-append p (joined (take k ps)))
+start_is n (p ∷ ps) (suc k) short = start_is (n + length p) ps k (omega (arith, short)) ∙ omega (arith, length-append p (joined (take k ps)))
 
 pub take-starts : (k n : ℕ) (ps : List (List ℕ)) → take k (starts_from n ps) ≡ starts_from n (take k ps)
 take-starts zero n ps = refl
@@ -78,7 +75,7 @@ drop-starts (suc k) n [] = refl
 drop-starts (suc k) n (p ∷ ps) =
     drop-starts k (n + length p) ps ∙ ap (λ (m : ℕ). starts_from m (drop k ps)) (omega (arith, length-append p (joined (take k ps))))
 
--- starts that lie behind what was removed are shifted as one
+-- starts that lie after what was removed are shifted as one
 pub shifted-starts : (n removed added : ℕ) (ps : List (List ℕ)) → removed ≤ n → shifted removed added (starts_from n ps) ≡ starts_from (n - removed + added) ps
 shifted-starts n removed added [] behind = refl
 shifted-starts n removed added (p ∷ ps) behind =
@@ -89,8 +86,7 @@ shifted-starts n removed added (p ∷ ps) behind =
 pub starts_go_on : (n : ℕ) (ps : List (List ℕ)) (j k : ℕ) → j ≤ k → k < length ps → get_or (starts_from n ps) j 0 ≤ get_or (starts_from n ps) k 0
 starts_go_on n [] j k before short = absurd (omega (arith, short))
 starts_go_on n (p ∷ ps) zero zero before short = omega arith
-starts_go_on n (p ∷ ps) zero (suc k) before short =
-    omega (arith, start_is (n + length p) ps k (omega (arith, short)))
+starts_go_on n (p ∷ ps) zero (suc k) before short = omega (arith, start_is (n + length p) ps k (omega (arith, short)))
 starts_go_on n (p ∷ ps) (suc j) zero before short = absurd (omega (arith, before))
 starts_go_on n (p ∷ ps) (suc j) (suc k) before short = starts_go_on (n + length p) ps j k (omega (arith, before)) (omega (arith, short))
 
@@ -140,7 +136,7 @@ joined_small (suc k) [] filled = omega arith
 joined_small (suc k) (p ∷ ps) filled =
     omega (arith, filled_small (p ∷ ps) zero filled, length-append p (joined (take k ps)), joined_small k ps (filled_drop (suc zero) (p ∷ ps) filled))
 
--- the piece in which a place would be if all were full doesn't start behind it
+-- the piece in which a place would be if all were full doesn't start after it
 pub full_start : (ps : List (List ℕ)) (place : ℕ) → 1 ≤ length ps → AreFilled ps →
     get_or (starts_from 0 ps) (min (place / 1024) (length (starts_from 0 ps) - 1)) 0 ≤ place
 full_start ps place some filled =
@@ -153,10 +149,9 @@ full_start ps place some filled =
 
 -- where the piece ends
 pub ends_at : (ps : List (List ℕ)) (k : ℕ) → k < length ps → length (joined (take (k + 1) ps)) ≡ get_or (starts_from 0 ps) k 0 + length (get_or ps k [])
-ends_at ps k short =
-    omega (arith, start_is 0 ps k short, length_parted ps k, length_parted ps (k + 1), length_piece ps k short)
+ends_at ps k short = omega (arith, start_is 0 ps k short, length_parted ps k, length_parted ps (k + 1), length_piece ps k short)
 
--- the piece in which a place was found ends behind the place, or with the text
+-- the piece in which a place was found ends after the place, or with the text
 found_before : (ps : List (List ℕ)) (k place : ℕ) → IsIn (starts_from 0 ps) k place →
     (place < get_or (starts_from 0 ps) k 0 + length (get_or ps k [])) ⊎ (get_or (starts_from 0 ps) k 0 + length (get_or ps k []) ≡ length (joined ps))
 found_before ps k place found =
@@ -210,8 +205,8 @@ module _ (ps : List (List ℕ)) (k x : ℕ) (short : k < length ps) (within : x 
 
 -- edits
 
--- What an edit of the pieces from `first` on and before `past` is: the new ones and what is behind are what stands in piece `first`
--- before the place, the word, and what stands in the text behind what is removed.
+-- What an edit of the pieces from `first` on and before `past` is: the new ones and what is after are what stands in piece `first`
+-- before the place, the word, and what stands in the text after what is removed.
 pub record IsEdit (ps new : List (List ℕ)) (w : List ℕ) (at remove first past : ℕ) : Type 0 where
   pub order : first < past
   pub past_within : past ≤ length ps
@@ -253,8 +248,7 @@ edited_starts ps new w at remove first past edit =
     sym (ap length (joined-append (take first ps) (new ++ drop past ps)) ∙ length-append (joined (take first ps)) (joined (new ++ drop past ps))
     ∙ ap (λ (n : ℕ). length (joined (take first ps)) + n) (ap length (joined-append new (drop past ps)) ∙ length-append (joined new) (joined (drop past ps))))
     ∙ ap length text ∙ length-splice (joined ps) w at remove edit.inside in
-    let next : end - remove + length w ≡ start + length (joined new) =
-    omega (arith, long, begin, length_parted ps past, edit.behind) in
+    let next : end - remove + length w ≡ start + length (joined new) = omega (arith, long, begin, length_parted ps past, edit.behind) in
     let front : take first (starts_from 0 ps) ≡ starts_from 0 (take first ps) = take-starts first 0 ps in
     let back : shifted remove (length w) (drop past (starts_from 0 ps)) ≡ starts_from (start + length (joined new)) (drop past ps) =
     ap (λ (l : List ℕ). shifted remove (length w) l) (drop-starts past 0 ps) ∙ shifted-starts end remove (length w) (drop past ps) (omega (arith, edit.behind))
@@ -304,7 +298,7 @@ all_filled_push ps p all filled = all_append IsFilled ps (p ∷ []) all (filled,
 pub filled_push : (ps : List (List ℕ)) (p : List ℕ) → AllByRecursion IsFilled ps → length p ≤ 1024 → AreFilled (ps ++ p ∷ [])
 filled_push ps p all small = filled-append ps (p ∷ []) all small
 
--- what a piece that is put behind others makes of them
+-- what a piece that is put after others makes of them
 pub ruleset pushed = (cut_more, joined_push, all_filled_push, filled_push)
 
 -- the piece that is full becomes one of the pieces
@@ -397,8 +391,7 @@ middle_edit ps new characters w at remove first from past order past_within plac
       within = omega (arith, place, within);
       inside = omega (arith, behind, length_parted ps past);
       behind = behind;
-      same =
-          ap (λ (l : List ℕ). l ++ joined (drop past ps)) are ∙ same ∙ ap (λ (n : ℕ). take n p ++ (w ++ drop (at + remove) (joined ps))) (sym before);
+      same = ap (λ (l : List ℕ). l ++ joined (drop past ps)) are ∙ same ∙ ap (λ (n : ℕ). take n p ++ (w ++ drop (at + remove) (joined ps))) (sym before);
       some = some;
       filled = filled;
       all = all;
@@ -443,7 +436,7 @@ character_at ps starts k place cut found short =
     let P : List ℕ → Type 0 = λ s. IsFound ps s k place → get_or (joined ps) place 0 ≡ get_or (get_or ps k []) (place - get_or s k 0) 0 in
     subst P (sym cut.begin) (λ (f : IsFound ps (starts_from 0 ps) k place). character_in ps k place f.within f.begins (f.inside short)) found
 
--- starts behind an edit
+-- starts after an edit
 pub behind_start : (ps : List (List ℕ)) (starts : List ℕ) (past removed : ℕ) → AreWholeCut ps starts → removed ≤ length (joined (take past ps)) →
     (k : ℕ) → past ≤ k → k < length starts → removed ≤ get_or starts k 0
 behind_start ps starts past removed cut before k behind short =
@@ -460,8 +453,7 @@ small_start ps starts cut k short =
 -- a piece that was found ends before the next starts
 pub found_end : (ps : List (List ℕ)) (starts : List ℕ) (k place : ℕ) → AreWholeCut ps starts → IsFound ps starts k place →
     length (joined (take (k + 1) ps)) ≡ get_or starts k 0 + length (get_or ps k [])
-found_end ps starts k place cut found =
-    ends_at ps k found.within ∙ ap (λ (s : List ℕ). get_or s k 0 + length (get_or ps k [])) (sym cut.begin)
+found_end ps starts k place cut found = ends_at ps k found.within ∙ ap (λ (s : List ℕ). get_or s k 0 + length (get_or ps k [])) (sym cut.begin)
 
 -- what stands from a place on that was found
 found_rest : (ps : List (List ℕ)) (starts : List ℕ) (k place : ℕ) → AreWholeCut ps starts → IsFound ps starts k place → place ≤ length (joined ps) →
@@ -641,7 +633,7 @@ is_read ps ps' starts starts' first at start piece cut same same' found' start_a
       small = filled_small ps first cut.whole.filled;
     }
 
--- what is made of the pieces that an edit touches, where that piece is read anew
+-- what is made of the pieces that an edit touches, where that piece is read again
 pub middle_read : {ps : List (List ℕ)} {starts : List ℕ} {first at start : ℕ} {piece : List ℕ} (ps' : List (List ℕ)) (starts' front w : List ℕ) (end : ℕ)
     (characters piece' : List ℕ) (past : ℕ) → IsRead ps starts first at start piece → ps' ≡ ps → starts' ≡ starts → piece' ≡ get_or ps first piece' →
     front ≡ take (at - start) piece' → IsMiddle ps' starts' front w end characters past →

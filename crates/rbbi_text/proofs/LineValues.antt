@@ -98,8 +98,7 @@ module _ {V : Type 0} (IsLine : List ℕ → ℕ → Line V → Type 0) where
     same_values (line ∷ lines) before these those (inl (skipped, rest)) (inl (skipped', rest')) = same_values lines (before + 1) these those rest rest'
     same_values (line ∷ lines) before these those (inl (skipped, rest)) (inr (v', others', writes', rest', is')) =
         absurd (never line (before + 1) skipped writes')
-    same_values (line ∷ lines) before these those (inr (v, others, writes, rest, is)) (inl (skipped', rest')) =
-        absurd (never line (before + 1) skipped' writes)
+    same_values (line ∷ lines) before these those (inr (v, others, writes, rest, is)) (inl (skipped', rest')) = absurd (never line (before + 1) skipped' writes)
     same_values (line ∷ lines) before these those (inr (v, others, writes, rest, is)) (inr (v', others', writes', rest', is')) =
         is ∙ ap (λ x. x ∷ others) (same_value v v' line (before + 1) writes writes')
         ∙ ap (λ vs. v' ∷ vs) (same_values lines (before + 1) others others' rest rest') ∙ sym is'
@@ -133,8 +132,7 @@ module _ {V : Type 0} (IsLine : List ℕ → ℕ → Line V → Type 0) where
     -- no line before the first bad one is bad
     no_earlier : (lines : List (List ℕ)) (m n : ℕ) → IsFirstBadLine IsLine lines m → IsFirstBadLine IsLine lines n → m + 1 ≤ n → ⊥
     no_earlier lines m n is is' less =
-        let split = behind is.before is'.before is.line is'.line is.after is'.after (sym is.parts ∙ is'.parts)
-        (omega (arith, is.counted, is'.counted, less)) in
+        let split = behind is.before is'.before is.line is'.line is.after is'.after (sym is.parts ∙ is'.parts) (omega (arith, is.counted, is'.counted, less)) in
         none_bad is.before is.line split.0 0 m is'.good.0 (subst (λ ls. AreValues IsLine ls 0 is'.good.0) split.1 is'.good.1) (omega (arith, is.counted)) is.bad
 
     same_bad_line : (lines : List (List ℕ)) (m n : ℕ) → IsFirstBadLine IsLine lines m → IsFirstBadLine IsLine lines n → m ≡ n
@@ -147,7 +145,7 @@ module _ {V : Type 0} (IsLine : List ℕ → ℕ → Line V → Type 0) where
     good_or_bad lines values n good is =
         none_bad is.before is.line is.after 0 n values (subst (λ ls. AreValues IsLine ls 0 values) is.parts good) (omega (arith, is.counted)) is.bad
 
-    -- bytes have one answer, but for want of memory
+    -- bytes have one answer, but for running out of memory
     pub one_answer : (bytes : List ℕ) (one other : Result (List V) LinesErr) → ReadsLines IsLine bytes one → ReadsLines IsLine bytes other
         → one ≢ Err Memory → other ≢ Err Memory → one ≡ other
     one_answer bytes (Ok vs) (Ok ws) is is' some some' = ap Ok (same_values (file_lines bytes) 0 vs ws is.1 is'.1)
@@ -160,7 +158,6 @@ module _ {V : Type 0} (IsLine : List ℕ → ℕ → Line V → Type 0) where
     one_answer bytes (Err (NotUtf8 at)) (Err Memory) is is' some some' = absurd (some' refl)
     one_answer bytes (Err (BadLine n)) (Ok ws) is is' some some' = absurd (good_or_bad (file_lines bytes) ws n is'.1 is.1)
     one_answer bytes (Err (BadLine n)) (Err (NotUtf8 at')) is is' some some' = absurd (is'.not_utf8 is.0)
-    one_answer bytes (Err (BadLine n)) (Err (BadLine n')) is is' some some' =
-        ap (λ (k : ℕ). Err (BadLine k)) (same_bad_line (file_lines bytes) n n' is.1 is'.1)
+    one_answer bytes (Err (BadLine n)) (Err (BadLine n')) is is' some some' = ap (λ (k : ℕ). Err (BadLine k)) (same_bad_line (file_lines bytes) n n' is.1 is'.1)
     one_answer bytes (Err (BadLine n)) (Err Memory) is is' some some' = absurd (some' refl)
     one_answer bytes (Err Memory) other is is' some some' = absurd (some refl)

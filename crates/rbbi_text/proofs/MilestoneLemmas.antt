@@ -1,8 +1,6 @@
 -- Milestones of lists: what stands at one, and what becomes of them when the list changes.
-use Rattle.std.proofs.Common.{◌≡◌, ℕ, zero, suc, ◌+◌, ◌-◌, ◌*◌, ◌/◌, ◌<◌, ◌≤◌, List, [], ◌∷◌, ◌++◌, length, get_or, set, take, drop, sum_by, min}
-use Rattle.std.proofs.Common.{refl, sym, ap, ◌∙◌}
-use Rattle.std.proofs.Common.{arith, ⊎_elim, length-append, length-take, length-drop, length-set}
-use Rattle.std.proofs.Common.{◌⊎◌, true, cond, ltb, eqb, subst}
+use Rattle.std.proofs.Common.{◌≡◌, ℕ, zero, suc, ◌+◌, ◌-◌, ◌*◌, ◌/◌, ◌<◌, ◌≤◌, List, [], ◌∷◌, ◌++◌, length, get_or, set, take, drop, sum_by, min, refl, sym, ap}
+use Rattle.std.proofs.Common.{◌∙◌, arith, ⊎_elim, length-append, length-take, length-drop, length-set, ◌⊎◌, true, cond, ltb, eqb, subst}
 use Rattle.std.specs.List.{slice_range, splice}
 use Rattle.std.proofs.lemmas.Bool.{cases_lt, cond_both, eqb-true, eq-eqb}
 use Rattle.std.proofs.lemmas.List.{get_or-take, get_or_append_left, get_or-append_right, take-take, take_all, get_or_read, get_or-set_same}
@@ -36,8 +34,7 @@ module _ {A : Type 0} (weight : A → ℕ) (items : List A) where
       ∙ ap (λ n. sum_by weight (take n items)) all
 
   pub sum_more : (from count : ℕ) → sum_by weight (take (from + count) items) ≡ sum_by weight (take from items) + sum_by weight (take count (drop from items))
-  sum_more from count =
-      ap (λ l. sum_by weight l) (take-add from count items) ∙ sum_by-append weight (take from items) (take count (drop from items))
+  sum_more from count = ap (λ l. sum_by weight l) (take-add from count items) ∙ sum_by-append weight (take from items) (take count (drop from items))
 
   -- what stands at a milestone
   pub milestone_is : (sums : List ℕ) (k : ℕ) → AreMilestones weight items sums → k ≤ length sums → get_or (0 ∷ sums) k 0 ≡ sum_by weight (take (64 * k) items)
@@ -46,7 +43,7 @@ module _ {A : Type 0} (weight : A → ℕ) (items : List A) where
       let next : k + 1 ≡ suc k = omega arith in
       are.each k (omega (arith, within)) ∙ ap (λ n. sum_by weight (take (64 * n) items)) next
 
-  -- as many as may be behind a milestone are as many as may be of all
+  -- as many as may be after a milestone are as many as may be of all
   pub fit_behind : (from most units count more : ℕ) → from ≤ length items → units ≡ sum_by weight (take from items) → units ≤ most →
       IsFit weight (drop from items) (most - units) count more → IsFit weight items most (from + count) (units + more)
   fit_behind from most units count more within units_are low fit = record {
@@ -77,7 +74,7 @@ module _ {A : Type 0} (weight : A → ℕ) (items : List A) where
         (cases_lt k (length sums));
   }
 
-  -- the same by the number of the first item behind the milestone
+  -- the same by the number of the first item after the milestone
   pub milestone_at : (sums : List ℕ) (k : ℕ) → AreMilestones weight items sums → k ≤ length sums → get_or (0 ∷ sums) k 0 ≡ sum_by weight (take (k * 64) items)
   milestone_at sums k are within =
       let same : 64 * k ≡ k * 64 = omega arith in
@@ -97,19 +94,14 @@ module _ {A : Type 0} (weight : A → ℕ) (items : List A) where
         (sym (take-take (64 * (k + 1)) from items before) ∙ ap (λ l. take (64 * (k + 1)) l) (sym same) ∙ take-take (64 * (k + 1)) from new before);
   }
 
-  -- what an item takes is in each milestone behind it
+  -- what an item takes is in each milestone after it
   pub item_in_milestone : (sums : List ℕ) (item : ℕ) (d : A) → AreMilestones weight items sums → (k : ℕ) → item / 64 ≤ k → k < length sums →
       weight (get_or items item d) ≤ get_or sums k 0
   item_in_milestone sums item d are k behind short =
       let n : ℕ = 64 * (k + 1) in
       let low : item < n = omega (arith, behind) in
       let long : item < length (take n items) = omega (arith, low, length-take n items, are.few, short) in
-      omega (
-        arith,
-        are.each k short,
-        sum_by_more_le weight (take n items) item d long,
-        ap weight (get_or-take n items item d low),
-      )
+      omega (arith, are.each k short, sum_by_more_le weight (take n items) item d long, ap weight (get_or-take n items item d low))
 
   milestone_in_all : (sums : List ℕ) → AreMilestones weight items sums → (k : ℕ) → k < length sums → get_or sums k 0 ≤ sum_by weight items
   milestone_in_all sums are k short = omega (arith, are.each k short, sum_by-take-le weight items (64 * (k + 1)))
@@ -124,7 +116,7 @@ module _ {A : Type 0} (weight : A → ℕ) (items : List A) where
         length-drop from sums,
       )
 
-  -- milestones behind an item that is another one
+  -- milestones after an item that is another one
   pub milestones_moved : (sums : List ℕ) (item old new : ℕ) (q d : A) → AreMilestones weight items sums → item < length items → old ≡ weight
       (get_or items item d) →
       new ≡ weight q → let from = min (item / 64) (length sums) in AreMilestones weight (set items item q) (take from sums ++ shifted old new (drop from sums))
@@ -220,28 +212,18 @@ index_of_chars x o within =
 
 -- a part of a list takes no more than all of it
 pub slice_small : (unit : TextUnit) (x : List ℕ) (s e : ℕ) → sum_by (size_of unit) (slice_range x s e) ≤ 4 * length x
-slice_small unit x s e =
-    omega (arith, sum_by-take-le (size_of unit) (drop s x) (e - s), sum_by-take-drop (size_of unit) x s, sum_small unit x)
+slice_small unit x s e = omega (arith, sum_by-take-le (size_of unit) (drop s x) (e - s), sum_by-take-drop (size_of unit) x s, sum_small unit x)
 
 -- the length of an edited list
-pub long_is : (x new w : List ℕ) (start end : ℕ) → start ≤ end → end ≤ length x → new ≡ splice x start end w →
-    length new ≡ length x - (end - start) + length w
+pub long_is : (x new w : List ℕ) (start end : ℕ) → start ≤ end → end ≤ length x → new ≡ splice x start end w → length new ≡ length x - (end - start) + length w
 long_is x new w start end order within new_is =
-    omega (
-      arith,
-      ap length new_is,
-      length-append (take start x) (w ++ drop end x),
-      length-append w (drop end x),
-      length-take start x,
-      length-drop end x,
-    )
+    omega (arith, ap length new_is, length-append (take start x) (w ++ drop end x), length-append w (drop end x), length-take start x, length-drop end x)
 
 -- what a list takes after an edit, by what the part that is gone and the new one take
 pub reweighed : (unit : TextUnit) (x new w gone_from new_from : List ℕ) (start end n old gone added : ℕ) → start ≤ end → end ≤ length x →
     length x - (end - start) + length w ≤ 1024 → new ≡ splice x start end w → n ≡ length new - (length x - end) → gone_from ≡ x → new_from ≡ new →
     old ≡ sum_by (size_of unit) x → gone ≡ sum_by (size_of unit) (slice_range gone_from start end) → added ≡ sum_by (size_of unit)
-    (slice_range new_from start n) →
-    (gone ≤ old) × (old - gone + added ≡ sum_by (size_of unit) new) × (length new ≤ 1024)
+    (slice_range new_from start n) → (gone ≤ old) × (old - gone + added ≡ sum_by (size_of unit) new) × (length new ≤ 1024)
 reweighed unit x new w gone_from new_from start end n old gone added order within few new_is n_is gone_is from_is old_is is_gone is_added =
     let f : ℕ → ℕ = size_of unit in
     let front : List ℕ = take start x in
@@ -373,7 +355,7 @@ module _ (unit : TextUnit) (ps : List (List ℕ)) (starts : List ℕ) (cut : Are
       subst (λ n. IsIndex unit (joined ps) o (record { at = n + count; whole = eqb (units + more) o })) (sym (start_same k))
       (index_is unit (joined ps) o (get_or (starts_from 0 ps) k 0 + count) (units + more) (fit_joined unit ps o k units count more front short rest'))
 
--- a piece that is edited, in the milestones behind it
+-- a piece that is edited, in the milestones after it
 module _ (unit : TextUnit) (ps : List (List ℕ)) (sums : List ℕ) (first : ℕ) (are : AreMilestones (weight_of unit) ps sums) (short : first < length ps) where
   pub old_in_milestones : (old : ℕ) (item : List ℕ) → item ≡ get_or ps first item → old ≡ weight_of unit item →
       (k : ℕ) → first / 64 ≤ k → k < length sums → old ≤ get_or sums k 0

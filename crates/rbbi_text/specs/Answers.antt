@@ -1,5 +1,5 @@
 -- What the calls that make or change a text answer, by cases on the answer.
-use Rattle.std.specs.Prelude.{◌≡◌, ◌<◌, ◌≤◌, ◌+◌, ℕ, List, length, Result, Ok, Err, IsUtf8, chars}
+use Rattle.std.specs.Prelude.{◌≡◌, ◌<◌, ◌≤◌, ◌+◌, ◌-◌, ℕ, List, length, Result, Ok, Err, IsUtf8, chars}
 use Rattle.rbbi_model.specs.Words.{most_characters}
 use Rattle.rbbi_model.specs.Scripts.{splice}
 use Rattle.rbbi_text.specs.Bytes.{IsNotUtf8At}
@@ -31,3 +31,10 @@ Replaces old at remove insert (Err edit.Outside) new = (length old < at + remove
 Replaces old at remove insert (Err edit.TooLong) new =
     (at + remove ≤ length old) × (most_characters < length (splice old at remove insert)) × (new ≡ old)
 Replaces old at remove insert (Err edit.Memory) new = new ≡ old
+
+-- what is answered before a text of so many characters is edited: how many are inserted, or why it isn't edited
+abbrev pub ChecksEdit : ℕ → ℕ → ℕ → ℕ → Result ℕ EditErr → Type 0
+ChecksEdit len at remove inserted (Ok count) = (at + remove ≤ len) × (len - remove + inserted ≤ most_characters) × (count ≡ inserted)
+ChecksEdit len at remove inserted (Err edit.Outside) = len < at + remove
+ChecksEdit len at remove inserted (Err edit.TooLong) = (at + remove ≤ len) × (most_characters < len - remove + inserted)
+ChecksEdit len at remove inserted (Err edit.Memory) = ⊥

@@ -8,7 +8,7 @@ use Rattle.std.specs.Str.Lossy.{utf8_valid_len}
 abbrev pub most_bytes : ℕ
 most_bytes = 100663296
 
--- the bytes aren't UTF-8, and this is the first past their longest front that is
+-- the bytes aren't UTF-8, and this is the first past their longest prefix that is
 pub record IsNotUtf8At (bytes : List ℕ) (at : ℕ) : Type 0 where
   pub not_utf8 : ¬ IsUtf8 bytes
   pub at_is : at ≡ utf8_valid_len bytes

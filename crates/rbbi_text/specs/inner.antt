@@ -1,5 +1,4 @@
 -- What only this crate's own code and proofs cite. Nothing that is promised rests on it.
-pub mod Answers
 pub mod Cuts
 pub mod LineValues
 pub mod Fits

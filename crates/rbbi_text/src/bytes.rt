@@ -7,8 +7,7 @@ ghost use Rattle.rbbi_text.specs.Bytes.{most_bytes, IsNotUtf8At, without_mark};
 /// and line fits a `u32`.
 pub const MOST_BYTES: usize = 100_663_296;
 
-/// The bytes as a text; or, where they aren't UTF-8, the first byte past the longest front that is,
-/// from 0.
+/// The bytes as a text, or the first byte past the longest prefix that is UTF-8, from 0.
 pub fn utf8_text(bytes: &[u8]) -> Result<&str, u32>
     requires { length bytes.now ≤ most_bytes }
     ensures { MatchResult result

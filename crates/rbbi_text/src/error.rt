@@ -24,8 +24,7 @@ pub enum TextErr {
 /// Why the bytes of a file are not taken as a text.
 #[derive(Debug, Drop, Error)]
 pub enum RawErr {
-    /// They are not UTF-8. The number is that of the first byte past the longest valid front, from
-    /// 0.
+    /// They are not UTF-8, from the byte past the longest valid prefix on, from 0.
     #[error("the bytes from {0} on are not UTF-8")]
     NotUtf8(u32),
     /// They are UTF-8, of more than 16,777,216 characters.
@@ -53,8 +52,7 @@ pub enum EditErr {
 /// Why a file of lines is not taken.
 #[derive(Debug, Drop, Error)]
 pub enum LinesErr {
-    /// The bytes are not UTF-8. The number is that of the first byte past the longest valid front,
-    /// from 0.
+    /// They are not UTF-8, from the byte past the longest valid prefix on, from 0.
     #[error("the bytes from {0} on are not UTF-8")]
     NotUtf8(u32),
     /// This line, counted from 1, is the first that is neither skipped nor of a stated form.

@@ -30,7 +30,7 @@ pub use line_parts::{before_byte, is_blank, is_skipped, place_or_len, trim, trim
 pub use line_values::{Line, LineValue, Values, read_lines};
 pub use numbers::{decimal, hexadecimal, number_of_characters};
 pub use pieces::Pieces;
-pub use plain::PlainText;
+pub use plain::{PlainText, check_edit};
 pub use raw::Raw;
 pub use rbbi_model::Unit;
 pub use steps::Steps;

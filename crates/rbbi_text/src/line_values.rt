@@ -86,8 +86,8 @@ impl<V: Drop> Values<V> {
 /// One U+FEFF at the start of the bytes isn't part of the first line. A line ends at LF, and one CR
 /// before it isn't part of the line.
 ///
-/// Refuses `NotUtf8` with the first byte past the longest valid front, `BadLine` with the first bad
-/// line, and `Memory`.
+/// Refuses `NotUtf8` with the first byte past the longest valid prefix, `BadLine` with the first
+/// bad line, and `Memory`.
 pub fn read_lines<V: LineValue>(alloc: Global, bytes: &[u8]) -> Result<Values<V>, LinesErr>
     requires { length bytes.now ≤ most_bytes }
     ensures { ReadsLines V.IsLine bytes.now result }

@@ -43,7 +43,7 @@ fn utf8_size(code: u32) -> u32
     if code < 0x10000 { 3 } else { 4 }
 }
 
-/// How many numbers of 16 bits of UTF-16 a character takes.
+/// How many 16-bit units of UTF-16 a character takes.
 fn utf16_size(code: u32) -> u32
     ensures { result ≡ size_of Utf16 code }
 {
@@ -61,6 +61,17 @@ pub(crate) fn total<T: Measure>(items: &[T], unit: Unit) -> u32
         total += item.units(unit);
     }
     total
+}
+
+/// How much of a unit these characters take together.
+pub(crate) fn taken(items: &[char], unit: Unit) -> u32
+    requires { sum_by (size_of unit) items.now < 2 ^ 32 }
+    ensures { result ≡ sum_by (size_of unit) items.now }
+{
+    match unit {
+        Unit::Chars => items.len() as u32,
+        Unit::Utf8 | Unit::Utf16 => total(items, unit),
+    }
 }
 
 /// How many items fit, and how much of the unit they take together.

@@ -45,7 +45,7 @@ impl Milestones {
         self.renew(items, 0);
     }
 
-    /// Makes those anew that lie behind an item from which on the items are others.
+    /// Makes those again that lie after an item from which on the items are others.
     pub(crate) fn renew<T: Measure>(&mut self, items: &[T], from: usize)
         requires small { sum_by (T.weight self.old.unit) items.now < 2 ^ 32 }
         requires kept { AreMilestones (T.weight self.old.unit) items.now
@@ -89,8 +89,7 @@ fn add_milestones<T: Measure>(items: &[T], sums: &mut Vec<u32>, unit: Unit)
     }
 }
 
-/// How much of the unit the items before a milestone take together. Number 0 stands before all of
-/// them.
+/// How much of the unit the items before a milestone take together; before number 0, nothing.
 fn at_milestone(sums: &[u32], number: usize) -> u32
     requires { number ≤ length sums.now }
     ensures { result ≡ slice_index (0 ∷ sums.now) number }
@@ -98,7 +97,7 @@ fn at_milestone(sums: &[u32], number: usize) -> u32
     if number == 0 { 0 } else { sums[number - 1] }
 }
 
-/// The number of a milestone that doesn't lie past an offset: of the last one.
+/// The number of the last milestone that doesn't lie past an offset.
 fn last_milestone(sums: &[u32], most: u32) -> usize
     ensures within { result ≤ length sums.now }
     ensures low { slice_index (0 ∷ sums.now) result ≤ most }
@@ -142,7 +141,7 @@ pub(crate) fn find<T: Measure>(items: &[T], sums: &[u32], unit: Unit, most: u32)
     }
 }
 
-/// Moves the milestones behind an item that took `old` of their unit and takes `new` now.
+/// Moves the milestones after an item that took `old` of their unit and takes `new` now.
 pub(crate) fn shift_milestones(sums: &mut Vec<u32>, item: usize, old: u32, new: u32)
     requires behind { (k : ℕ) → item / 64 ≤ k → k < length sums.old.items
         → old ≤ slice_index sums.old.items k }

@@ -7,7 +7,7 @@ ghost use Rattle.rbbi_text.specs.Numbers.{number, at_most, decimal, hexadecimal}
 /// One more than the greatest `u32`: all numbers that are greater count as this.
 const TOO_GREAT: u64 = 4_294_967_296;
 
-/// One more digit behind a number. A character that is no digit and no ASCII letter counts as 36.
+/// One more digit after a number. A character that is no digit and no ASCII letter counts as 36.
 fn with_digit(value: u64, base: u32, c: char) -> u64
     requires small { value ≤ 4294967296 }
     requires base { base ≤ 36 }
@@ -44,8 +44,7 @@ pub fn number_of_characters(digits: &[char], base: u32, most: u32) -> Option<u32
     at_most(value, most)
 }
 
-/// The number that bytes write in a base from 1 to 36, where it is at most this, as
-/// `number_of_characters` for ASCII.
+/// The number that bytes write in ASCII, as `number_of_characters`.
 fn number_of_bytes(digits: &[u8], base: u32, most: u32) -> Option<u32>
     requires some_base { 0 < base }
     requires base { base ≤ 36 }
@@ -59,8 +58,7 @@ fn number_of_bytes(digits: &[u8], base: u32, most: u32) -> Option<u32>
     at_most(value, most)
 }
 
-/// The number that one decimal digit or more write, where it is at most this. None for any other
-/// text.
+/// The number that one decimal digit or more write, if it is at most this.
 pub fn decimal(text: &[u8], most: u32) -> Option<u32>
     ensures value { result ≡ decimal most text.now }
     ensures bound { IfSome result (λ n. n ≤ most) }

@@ -1,17 +1,15 @@
 //! The pieces that a text is cut into.
 ghost use Rattle.std.specs.Prelude.{◌≡◌, ◌+◌, ◌≤◌, ◌<◌, ◌++◌, length, take, drop, slice_index};
-ghost use Rattle.std.specs.Prelude.{IfOk, OnOk, OnErr, MatchOption, MatchBool, [], ◌∷◌, chars};
-ghost use Rattle.std.specs.Prelude.{◌-◌, ◌^◌, sum_by};
+ghost use Rattle.std.specs.Prelude.{IfOk, OnOk, OnErr, MatchOption, MatchBool, [], ◌∷◌, chars, ◌-◌};
 ghost use Rattle.std.specs.List.{AllByRecursion, splice};
 ghost use Rattle.rbbi_model.specs.Words.{most_characters};
 ghost use Rattle.rbbi_model.specs.Spelling.{joined};
 ghost use Rattle.rbbi_text.specs.Cuts.{IsFilled, AreFilled, ArePieces};
 ghost use Rattle.rbbi_text.specs.inner.Cuts.{AreSoFar, HaveRoom};
-ghost use Rattle.rbbi_model.specs.Units.{size_of};
 ghost use Rattle.rbbi_text.specs.Weighed.{weight_of};
 
 use crate::Unit;
-use crate::measure::{Measure, total};
+use crate::measure::{Measure, taken};
 use crate::plain::{MOST_CHARACTERS, put};
 use std::alloc::{AllocError, Global};
 use std::marker::Model;
@@ -23,7 +21,7 @@ pub(crate) const FULL: usize = 1024;
 /// The fewest characters of a piece, but for the last.
 pub(crate) const QUARTER: usize = 256;
 
-/// At most 1,024 characters of a text, one behind the other. Contracts see it as their list.
+/// At most 1,024 characters of a text, one after the other. Contracts see it as their list.
 #[derive(Drop)]
 pub(crate) struct Piece {
     items: Vec<char>,
@@ -54,17 +52,6 @@ impl Measure for Piece {
     }
 }
 
-/// How much of a unit these characters take together.
-fn taken(items: &[char], unit: Unit) -> u32
-    requires { sum_by (size_of unit) items.now < 2 ^ 32 }
-    ensures { result ≡ sum_by (size_of unit) items.now }
-{
-    match unit {
-        Unit::Chars => items.len() as u32,
-        Unit::Utf8 | Unit::Utf16 => total(items, unit),
-    }
-}
-
 impl Piece {
     /// The piece of these characters, ready for a unit.
     fn of(items: Vec<char>, unit: Unit) -> Piece
@@ -83,8 +70,7 @@ impl Piece {
         self.unit = unit;
     }
 
-    /// Replaces the characters from one place to another by those of a string. If memory runs out,
-    /// they stay as they were.
+    /// Replaces the characters from one place to another by those of a string, as `plain::put`.
     pub(crate) fn put(&mut self, start: usize, end: usize, text: &str) -> Result<(), AllocError>
         requires forward { start ≤ end }
         requires within { end ≤ length self.old }
@@ -164,8 +150,7 @@ fn push_piece(
     Ok(())
 }
 
-/// How many of so many characters make the next piece: a full one, or half of them where a full one
-/// would leave too few.
+/// How many of so many characters make the next piece: a full one, or half if that left too few.
 fn next_size(rest: usize) -> usize
     requires { 1024 < rest }
     ensures filled { (256 ≤ result) × (result ≤ 1024) }
@@ -199,8 +184,7 @@ pub(crate) fn cut(alloc: Global, characters: &[char], unit: Unit) -> Result<Vec<
     Ok(pieces)
 }
 
-/// Makes room for one more character: where the open piece is full, it becomes one of the pieces.
-/// The answer is whether one more may come.
+/// Whether one more character may come. An open piece that is full becomes one of the pieces.
 #[tactic(auto, using(crate::proofs::CutLemmas::room_behind))]
 fn make_room(
     alloc: Global,
@@ -224,8 +208,7 @@ fn make_room(
     Ok(true)
 }
 
-/// The pieces of a string, all full but the last, or nothing where it has more characters than a
-/// text may have.
+/// The pieces of a string, all full but the last, or None if it has too many characters for a text.
 pub(crate) fn pieces_of(alloc: Global, text: &str) -> Result<Option<Vec<Piece>>, AllocError>
     ensures { IfOk result (λ found. MatchOption found
         (most_characters < length (chars text.now))

@@ -19,7 +19,7 @@ use crate::measure::{Measure, fit_in, total};
 use crate::milestones::{Milestones, before, find, shift_milestones};
 use crate::piece::{FULL, Piece, QUARTER, cut, pieces_of};
 use crate::places::{character, locate, push_starts, shift};
-use crate::plain::{added, put};
+use crate::plain::{check_edit, put};
 use crate::{Chars, EditErr, EditText, Index, Raw, RawErr, Steps, TextErr, Unit, UnitText};
 use std::alloc::{AllocError, Global};
 use std::fmt;
@@ -31,7 +31,7 @@ use std::sync::ledger::Ledger;
 /// All pieces but the last are between a quarter full and full. A place is found by where the
 /// pieces start, from the piece on in which it would be if all were full: some nanoseconds in a
 /// text that was hardly edited, and logarithmic in one that was. An edit moves the characters of
-/// one piece, or of the few that it touches, and the starts behind it.
+/// one piece, or of the few that it touches, and the starts after it.
 #[derive(Drop)]
 pub struct Pieces {
     pieces: Vec<Piece>,
@@ -129,7 +129,7 @@ impl Chars for Pieces {
 }
 
 /// Edits one piece: it replaces `remove` characters from `from` by those of a string, `added` of
-/// them, and moves the starts behind it. If memory runs out, the pieces stay as they were.
+/// them, and moves the starts after it. If memory runs out, the pieces stay as they were.
 fn edit_piece(
     pieces: &mut Vec<Piece>,
     starts: &mut Vec<u32>,
@@ -172,7 +172,7 @@ fn edit_piece(
     Ok(())
 }
 
-/// Replaces the pieces from `first` to the one before `past` by others, and moves the starts behind
+/// Replaces the pieces from `first` to the one before `past` by others, and moves the starts after
 /// them. If memory runs out, the pieces stay as they were.
 fn put_pieces(
     pieces: &mut Vec<Piece>,
@@ -195,26 +195,8 @@ fn put_pieces(
     Ok(())
 }
 
-/// A copy of the starts before a number, with room for all.
-fn starts_before(alloc: Global, starts: &[u32], first: usize) -> Result<Vec<u32>, AllocError>
-    requires { first ≤ length starts.now }
-    ensures { IfOk result (λ all. all.items ≡ take first starts.now) }
-{
-    let mut all = Vec::with_capacity(alloc, starts.len())?;
-    all.extend_from_slice(&starts[..first])?;
-    Ok(all)
-}
-
-/// Adds the starts from a number on.
-fn push_behind(all: &mut Vec<u32>, starts: &[u32], past: usize) -> Result<(), AllocError>
-    requires { past ≤ length starts.now }
-    ensures { OnOk result (all.new.items ≡ all.old.items ++ drop past starts.now) }
-{
-    all.extend_from_slice(&starts[past..])
-}
-
 /// The starts with those of new pieces in place of those from `first` to the one before `past`.
-/// Those behind are moved.
+/// Those after are moved.
 fn starts_with(
     alloc: Global,
     starts: &[u32],
@@ -234,15 +216,16 @@ fn starts_with(
     ensures { IfOk result (λ all.
         all.items ≡ starts_with_new starts.now first past new.now removed added) }
 {
-    let mut all = starts_before(alloc, starts, first)?;
+    let mut all = Vec::with_capacity(alloc, starts.len())?;
+    all.extend_from_slice(&starts[..first])?;
     let _end = push_starts(&mut all, starts[first], new)?;
     let behind = all.len();
-    push_behind(&mut all, starts, past)?;
+    all.extend_from_slice(&starts[past..])?;
     shift(&mut all, behind, removed, added);
     Ok(all)
 }
 
-/// Characters, those of a string and further ones, one behind the other.
+/// Characters, those of a string and further ones, one after the other.
 fn gathered(
     alloc: Global,
     front: &[char],
@@ -262,12 +245,11 @@ fn gathered(
 #[derive(Drop)]
 struct Middle {
     characters: Vec<char>,
-    /// The number of the first piece behind them.
+    /// The number of the first piece after them.
     past: usize,
 }
 
-/// Whether so many characters may stand behind those of the last piece that an edit touches without
-/// the next piece.
+/// Whether so many characters make a piece, or piece `last` is the last one.
 fn is_enough(len: usize, last: usize, count: usize) -> bool
     requires { last < count }
     ensures { MatchBool result (last + 1 < count → 256 ≤ len) (last + 1 < count) }
@@ -275,9 +257,8 @@ fn is_enough(len: usize, last: usize, count: usize) -> bool
     len >= QUARTER || last + 1 == count
 }
 
-/// What an edit makes of the pieces that it touches: what it leaves of piece `first` in front, the
-/// characters of the string, and what it leaves from the place `end` on. Where these are few, the
-/// next piece is taken with them.
+/// What an edit makes of the pieces that it touches: what it leaves in front, the characters of the
+/// string, and what it leaves from the place `end` on. If these are few, the next piece comes too.
 fn make_middle(
     alloc: Global,
     pieces: &[Piece],
@@ -308,8 +289,7 @@ fn make_middle(
     })
 }
 
-/// Whether an edit from a place of a piece is within it and leaves it between a quarter full and
-/// full, or not more than full where no piece is behind it.
+/// Whether an edit is within a piece and leaves it full enough, or the last, and not too full.
 fn fits(size: usize, from: usize, remove: usize, added: usize, behind: usize) -> bool
     requires small { from + remove < 2 ^ 40 }
     requires few { added < 2 ^ 32 }
@@ -323,8 +303,7 @@ fn fits(size: usize, from: usize, remove: usize, added: usize, behind: usize) ->
     behind == 0 || size - remove + added >= QUARTER
 }
 
-/// Replaces `remove` characters from a place by those of a string, `added` of them. If memory runs
-/// out, the pieces stay as they were.
+/// Replaces `remove` characters from a place by those of a string, `added` of them.
 fn edit(
     alloc: Global,
     pieces: &mut Vec<Piece>,
@@ -372,7 +351,7 @@ fn edit(
 
 impl EditText for Pieces {
     fn replace(&mut self, at: u32, remove: u32, insert: &str) -> Result<(), EditErr> {
-        let added = added(self.len as usize, at, remove, insert)?;
+        let added = check_edit(self.len as usize, at, remove, insert)?;
         edit(
             self.alloc,
             &mut self.pieces,

@@ -8,8 +8,7 @@ ghost use Rattle.rbbi_text.specs.inner.Cuts.{shifted, IsIn, IsFound, AreWholeCut
 use crate::piece::{FULL, Piece};
 use std::alloc::AllocError;
 
-/// The number of the piece that a place is in: mostly the one in which it would be if all were
-/// full, by one test.
+/// The number of the piece that a place is in: mostly where it would be if all were full.
 #[inline(always)]
 pub(crate) fn find(starts: &[u32], place: usize) -> usize
     requires some { 0 < length starts.now }
@@ -23,10 +22,8 @@ pub(crate) fn find(starts: &[u32], place: usize) -> usize
     find_from(starts, guess, place)
 }
 
-/// The number of the piece that a place is in, which is this one or one behind it.
-///
-/// It goes on by twice as many each time until it is past the place; then it halves what lies
-/// between.
+/// The number of the piece that a place is in, from this one on: by steps of twice as many each
+/// time until it is past the place, and then by halving what lies between.
 #[inline(never)]
 fn find_from(starts: &[u32], from: usize, place: usize) -> usize
     requires within { from < length starts.now }
@@ -70,21 +67,7 @@ pub(crate) fn push_starts(
     Ok(start)
 }
 
-/// Moves the starts from a number on, which lie behind an edit.
-fn shift_slice(starts: &mut [u32], from: usize, removed: u32, added: u32)
-    requires from { from ≤ length starts.old }
-    requires behind { (k : ℕ) → from ≤ k → k < length starts.old
-        → removed ≤ slice_index starts.old k }
-    requires small { (k : ℕ) → from ≤ k → k < length starts.old
-        → slice_index starts.old k + added < 2 ^ 32 }
-    ensures { starts.new ≡ take from starts.old ++ shifted removed added (drop from starts.old) }
-{
-    for k in from..starts.len() {
-        starts[k] = starts[k] - removed + added;
-    }
-}
-
-/// Moves the starts from a number on, which lie behind an edit.
+/// Moves the starts from a number on, which lie after an edit.
 pub(crate) fn shift(starts: &mut Vec<u32>, from: usize, removed: u32, added: u32)
     requires from { from ≤ length starts.old.items }
     requires behind { (k : ℕ) → from ≤ k → k < length starts.old.items
@@ -94,7 +77,10 @@ pub(crate) fn shift(starts: &mut Vec<u32>, from: usize, removed: u32, added: u32
     ensures { starts.new.items
         ≡ take from starts.old.items ++ shifted removed added (drop from starts.old.items) }
 {
-    shift_slice(starts, from, removed, added);
+    let moved = starts.as_mut_slice();
+    for k in from..moved.len() {
+        moved[k] = moved[k] - removed + added;
+    }
 }
 
 /// What is found of a place: the number of the piece that it is in.

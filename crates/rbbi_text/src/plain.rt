@@ -1,29 +1,14 @@
 //! A text in one flat list.
-ghost use Rattle.std.specs.Prelude.{
-  ◌≡◌,
-  ◌+◌,
-  ◌^◌,
-  ◌<◌,
-  ◌≤◌,
-  IfOk,
-  OnOk,
-  OnErr,
-  MatchOption,
-  length,
-  chars,
-};
+ghost use Rattle.std.specs.Prelude.{◌≡◌, ◌+◌, ◌^◌, ◌<◌, ◌≤◌, IfOk, OnOk, OnErr, MatchOption};
+ghost use Rattle.std.specs.Prelude.{length, chars};
 ghost use Rattle.std.specs.List.{splice};
 ghost use Rattle.rbbi_model.specs.Words.{most_characters};
 ghost use Rattle.rbbi_text.specs.Bytes.{most_bytes};
 ghost use Rattle.rbbi_text.specs.Texts.{IsShortText};
-ghost use Rattle.rbbi_text.specs.Answers.{TakesText, ReadsText};
-ghost use Rattle.rbbi_text.specs.inner.Answers.{TellsAdded};
-ghost use Rattle.rbbi_model.specs.Units.{size_of, offset_of};
-ghost use Rattle.rbbi_text.specs.Milestones.{AreMilestones};
-ghost use Rattle.rbbi_text.specs.Indexes.{IsIndex};
+ghost use Rattle.rbbi_text.specs.Answers.{TakesText, ReadsText, ChecksEdit};
+ghost use Rattle.rbbi_model.specs.Units.{offset_of};
 
-use crate::measure::total;
-use crate::milestones::{Milestones, before, find};
+use crate::measure::{fit_in, taken};
 use crate::{Chars, EditErr, EditText, Index, Raw, RawErr, Steps, TextErr, Unit, UnitText};
 use std::alloc::{AllocError, Global};
 use std::fmt;
@@ -36,29 +21,21 @@ pub(crate) const MOST_CHARACTERS: usize = 16_777_216;
 /// A text in one flat list of characters. Contracts see it as that list.
 ///
 /// It takes four bytes a character. A character is found in one step, and a change copies all that
-/// stands behind it.
-///
-/// Milestones by which places are found in UTF-8 or in UTF-16 take a sixteenth of a byte a
-/// character, once the text is made ready for that unit.
+/// stands after it. A place in UTF-8 or in UTF-16 is found by a walk from the text's start.
 #[derive(Drop)]
 pub struct PlainText {
     items: Vec<char>,
-    milestones: Milestones,
 }
 
 impl Model for PlainText {
     ghost use Rattle.std.specs.Prelude.{List, ℕ};
-    ghost use Rattle.rbbi_model.specs.Units.{size_of};
     ghost use Rattle.rbbi_text.specs.Texts.{IsShortText};
-    ghost use Rattle.rbbi_text.specs.Milestones.{AreMilestones};
 
     ghost Value = { List ℕ };
 
     ghost view = { λ text. text.items.items };
 
-    ghost invariant = { λ text. IsShortText text.items.items
-        × AreMilestones (size_of text.milestones.unit) text.items.items
-        text.milestones.sums.items };
+    ghost invariant = { λ text. IsShortText text.items.items };
 }
 
 /// It writes the type's name and none of the characters, which only `char_at` gives.
@@ -85,15 +62,6 @@ fn decoded(alloc: Global, text: &str) -> Result<Option<Vec<char>>, AllocError>
     Ok(Some(items))
 }
 
-/// The text of these characters.
-fn text_of(alloc: Global, items: Vec<char>) -> PlainText
-    requires { IsShortText items.items }
-    ensures { result ≡ items.items }
-{
-    let milestones = Milestones::none(alloc);
-    PlainText { items, milestones }
-}
-
 impl PlainText {
     /// The text of this string.
     ///
@@ -102,7 +70,7 @@ impl PlainText {
         ensures { TakesText (chars text.now) result }
     {
         match decoded(alloc, text)? {
-            Some(items) => Ok(text_of(alloc, items)),
+            Some(items) => Ok(PlainText { items }),
             None => Err(TextErr::TooManyChars),
         }
     }
@@ -117,13 +85,11 @@ impl PlainText {
         ensures { ReadsText raw.now result }
     {
         match decoded(alloc, raw.text()?)? {
-            Some(items) => Ok(text_of(alloc, items)),
+            Some(items) => Ok(PlainText { items }),
             None => Err(RawErr::TooManyChars),
         }
     }
-}
 
-impl PlainText {
     /// How much of a unit the characters from one place to another take together. It gives none of
     /// them, and goes over them once.
     pub fn units_between(&self, unit: Unit, from: u32, to: u32) -> u32
@@ -132,10 +98,7 @@ impl PlainText {
         ensures sum { offset_of unit self.now from + result ≡ offset_of unit self.now to }
         ensures small { offset_of unit self.now to < 2 ^ 32 }
     {
-        match unit {
-            Unit::Chars => to - from,
-            Unit::Utf8 | Unit::Utf16 => total(&self.items[from as usize..to as usize], unit),
-        }
+        taken(&self.items[from as usize..to as usize], unit)
     }
 }
 
@@ -152,11 +115,13 @@ impl Chars for PlainText {
     }
 }
 
-/// How many characters a string adds to a text of `len` characters where it is put in place of
-/// `remove` from the place `at`, or why it may not be.
-pub(crate) fn added(len: usize, at: u32, remove: u32, insert: &str) -> Result<u32, EditErr>
+/// How many characters a string has that is to replace `remove` characters from the place `at` of a
+/// text of `len` characters.
+///
+/// Refuses `Outside` and `TooLong` as `EditText::replace` does.
+pub fn check_edit(len: usize, at: u32, remove: u32, insert: &str) -> Result<u32, EditErr>
     requires { len ≤ most_characters }
-    ensures { TellsAdded len at remove (length (chars insert.now)) result }
+    ensures { ChecksEdit len at remove (length (chars insert.now)) result }
 {
     if at as usize + remove as usize > len {
         return Err(EditErr::Outside);
@@ -187,52 +152,25 @@ pub(crate) fn put(
 
 impl EditText for PlainText {
     fn replace(&mut self, at: u32, remove: u32, insert: &str) -> Result<(), EditErr> {
-        let _added = added(self.items.len(), at, remove, insert)?;
+        let _added = check_edit(self.items.len(), at, remove, insert)?;
         let start = at as usize;
         put(&mut self.items, start, start + remove as usize, insert)?;
-        self.milestones.renew(&self.items, start);
         Ok(())
     }
 }
 
 impl UnitText for PlainText {
     fn offset(&self, unit: Unit, i: u32) -> u32 {
-        match unit {
-            Unit::Chars => i,
-            Unit::Utf8 | Unit::Utf16 => {
-                let sums = self.milestones.sums_in(unit);
-                before(&self.items, sums, unit, i as usize)
-            }
-        }
+        taken(&self.items[..i as usize], unit)
     }
 
-    fn make_ready(&mut self, unit: Unit) {
-        match unit {
-            Unit::Chars => {}
-            Unit::Utf8 | Unit::Utf16 => self.milestones.rebuild(&self.items, unit),
-        }
-    }
+    fn make_ready(&mut self, _unit: Unit) {}
 
     fn index(&self, unit: Unit, o: u32) -> Index {
-        match unit {
-            Unit::Chars => Index { at: o, whole: true },
-            Unit::Utf8 | Unit::Utf16 => {
-                let sums = self.milestones.sums_in(unit);
-                index_in(&self.items, sums, unit, o)
-            }
+        let fit = fit_in(&self.items, unit, o);
+        Index {
+            at: fit.count as u32,
+            whole: fit.units == o,
         }
-    }
-}
-
-/// The place at an offset of the characters, by their milestones, or the last place before it.
-fn index_in(items: &[char], sums: &[u32], unit: Unit, o: u32) -> Index
-    requires sums { AreMilestones (size_of unit) items.now sums.now }
-    requires short { length items.now ≤ most_characters }
-    ensures { IsIndex unit items.now o result }
-{
-    let fit = find(items, sums, unit, o);
-    Index {
-        at: fit.count as u32,
-        whole: fit.units == o,
     }
 }

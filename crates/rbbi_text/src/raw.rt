@@ -8,8 +8,7 @@ use std::fmt;
 use std::marker::Model;
 use std::sync::ledger::Ledger;
 
-/// The bytes of a file. Contracts see it as their list. Outside of this crate only `bytes` gives
-/// them.
+/// The bytes of a file, which contracts see as their list. Only `bytes` gives them to other crates.
 #[derive(Drop)]
 pub struct Raw {
     bytes: Vec<u8>,

@@ -28,7 +28,7 @@ impl<L: Ledger> Steps<L> {
     ///
     /// It takes the runtime, which only `main` and tests have: what a library reads, it counts on
     /// the counter that it is passed. A function that makes a counter is generic over the ledger
-    /// and takes the blank, with these clauses as its own. Who calls it passes the ledger `Brand`
+    /// and takes the blank, with these clauses as its own. Its caller passes the ledger `Brand`
     /// and a `Blank::new(1)`, and picks the blank's name and parts for the ledger.
     pub fn new(runtime: &HostRuntime, blank: Blank) -> Steps<L>
         requires name { blank.name ≡ L.name }
@@ -39,10 +39,7 @@ impl<L: Ledger> Steps<L> {
         Steps::exported(runtime.memory(), blank)
     }
 
-    /// A counter that stands at 0, on a new ledger, as `new` makes it.
-    ///
-    /// It takes the right to ask for memory, which `main`, tests and functions that C calls are
-    /// given, and no library is.
+    /// A counter as of `new`, for functions that C calls: it takes the right to ask for memory.
     pub fn exported(_memory: Memory, blank: Blank) -> Steps<L>
         requires name { blank.name ≡ L.name }
         requires parts { blank.parts ≡ L.parts }

@@ -22,8 +22,8 @@ pub trait UnitText: EditText {
         requires { i ≤ length (Self.characters self.now) }
         ensures { result ≡ offset_of unit (Self.characters self.now) i };
 
-    /// Makes the text ready to find places in a unit without long walks over it, as far as memory
-    /// suffices. Places are right without it, and after edits too. In characters it does nothing.
+    /// Makes a text that keeps milestones ready to find places in a unit without long walks, as far
+    /// as memory suffices. Places are right without it, and after edits too.
     fn make_ready(&mut self, unit: Unit)
         ensures { Self.characters self.new ≡ Self.characters self.old };
 

@@ -1,5 +1,5 @@
 -- A piece that is filled by searches of the text.
-use Rattle.std.specs.Prelude.{◌≡◌, ℕ, ◌+◌, ◌<◌, ◌≤◌, List, [], length, Result, Ok, Err}
+use Rattle.std.specs.Prelude.{◌≡◌, ℕ, ◌+◌, ◌<◌, ◌≤◌, List, [], length}
 use Rattle.rbbi_model.specs.Tables.{Table}
 use Rattle.rbbi_tally.specs.inner.Segments.{AreSegments}
 use Rattle.rbbi_tally.specs.inner.Pieces.{segments_in, IsPiece}
@@ -15,8 +15,3 @@ pub record FillsPiece (table : Table) (x : List ℕ) (start : ℕ) (piece : Piec
   pub within : next ≤ length x
   pub counted : IsRecounted [] (segments_in piece) counts counts'
   pub read : after ≡ before + reads_of table x (segments_in piece)
-
--- where memory ran out, nothing was read
-abbrev pub ReadsPiece : {T E : Type 0} → Result T E → ℕ → ℕ → Type 0
-ReadsPiece (Ok filled) before after = Unit {0}
-ReadsPiece (Err error) before after = after ≡ before

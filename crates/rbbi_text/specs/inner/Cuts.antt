@@ -36,7 +36,7 @@ pub record IsFound (pieces : List (List ℕ)) (starts : List ℕ) (piece place :
   pub at_most : place ≤ slice_index starts piece + length (slice_index_or pieces piece [])
   pub inside : place < length (joined pieces) → place < slice_index starts piece + length (slice_index_or pieces piece [])
 
--- places behind an edit: less those of the characters that were removed, and more by those that were added
+-- places after an edit: less those of the characters that were removed, and more by those that were added
 abbrev pub shifted : ℕ → ℕ → List ℕ → List ℕ
 shifted removed added starts = map (λ start. start - removed + added) starts
 
@@ -53,8 +53,7 @@ starts_with_new starts first past new removed added =
 abbrev pub edited_piece : List (List ℕ) → ℕ → ℕ → ℕ → List ℕ → List ℕ
 edited_piece pieces first from removed inserted = splice (slice_index_or pieces first []) from (from + removed) inserted
 
--- What an edit leaves of the pieces that it touches: the characters in front, the word, and what stands from the place `end` on, up
--- to the piece with the number `past`.
+-- What an edit leaves of the pieces that it touches: the characters in front, the word, and those from the place `end` on, up to the piece `past`.
 pub record IsMiddle (pieces : List (List ℕ)) (starts front inserted : List ℕ) (end : ℕ) (characters : List ℕ) (past : ℕ) : Type 0 where
   pub same : characters ++ joined (drop past pieces) ≡ front ++ (inserted ++ drop end (joined pieces))
   pub past_within : past ≤ length pieces

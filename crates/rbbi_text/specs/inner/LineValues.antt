@@ -9,8 +9,7 @@ use Rattle.rbbi_text.specs.LineValues.{AreValues, IsFirstBadLine}
 module _ {V : Type 0} (IsLine : List ℕ → ℕ → Line V → Type 0) where
   -- the line is skipped and no value is added, or the one that it writes is
   abbrev pub AddsLine : List ℕ → ℕ → List V → List V → Type 0
-  AddsLine line number old new =
-      IsLine line number Skipped × (new ≡ old) ⊎ ((value : V) × IsLine line number (Writes value) × (new ≡ old ++ value ∷ []))
+  AddsLine line number old new = IsLine line number Skipped × (new ≡ old) ⊎ ((value : V) × IsLine line number (Writes value) × (new ≡ old ++ value ∷ []))
 
   -- why a line with this number is refused
   abbrev pub RefusesLine : List ℕ → ℕ → LinesErr → Type 0

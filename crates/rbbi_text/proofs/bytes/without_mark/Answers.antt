@@ -1,11 +1,10 @@
 use Rattle.std.proofs.Common.{◌≡◌, ◌≤◌, ℕ, ◌+◌, cond, Option, Some, None, List, ◌++◌, length, drop, MatchOption, Bor, sym, refl, ap, ◌∙◌, arith}
-use Rattle.std.specs.Prelude.{unwrap_or, encode_utf8}
+use Rattle.std.specs.Prelude.{unwrap_or, encode_utf8, nat_eq}
 use Rattle.std.specs.List.{starts_with}
 use Rattle.std.specs.Str.Pattern.{FindsCharPrefix}
 use Rattle.std.proofs.lemmas.Bool.{false_from_ne_true}
 use Rattle.std.proofs.lemmas.Bool.Decides.{Decides-eqb}
 use Rattle.std.proofs.lemmas.Slice.Eq.{starts_is}
-use Rattle.std.specs.Prelude.{nat_eq}
 use Rattle.rbbi_text.specs.Bytes.{byte_order_mark, without_mark}
 use Rattle.rbbi_text.proofs.bytes.without_mark.Goals as goal
 
@@ -27,8 +26,7 @@ stripped bs (Some x) whole same (n, found, rest, whole_length) =
     rest ∙ ap (λ k. drop k bs) found.ends ∙ sym (ap (λ b. cond b (drop (length byte_order_mark) bs) bs) marked)
 
 pub returns-clause-text : goal.returns-clause-text
-returns-clause-text c =
-    ap (λ r. r.now) c.unwrap_or.ensures ∙ stripped c.args.text.now c.strip_prefix.result c.args.text refl c.strip_prefix.ensures.cases
+returns-clause-text c = ap (λ r. r.now) c.unwrap_or.ensures ∙ stripped c.args.text.now c.strip_prefix.result c.args.text refl c.strip_prefix.ensures.cases
 
 no_longer : (bs : List ℕ) (found : Option (Bor (List ℕ))) (whole : Bor (List ℕ)) → whole.now ≡ bs → Stripped bs found →
     length (unwrap_or found whole).now ≤ length bs

@@ -1,13 +1,15 @@
 use Rattle.std.proofs.Common.{◌≡◌, ℕ, ◌+◌, ◌-◌, ◌<◌, ◌≤◌, List, [], ◌++◌, length, get_or, take, drop, ap, sym, ◌∙◌, chars, subst, arith, length-take}
 use Rattle.rbbi_model.specs.Words.{most_characters}
 use Rattle.rbbi_model.specs.Spelling.{joined}
-use Rattle.rbbi_text.specs.inner.Cuts.{shifted, starts_with_new}
+use Rattle.rbbi_model.specs.Scripts.{splice}
+use Rattle.rbbi_text.specs.inner.Cuts.{shifted, starts_with_new, AreWholeCut}
 use Rattle.rbbi_text.specs.Milestones.{AreMilestones}
 use Rattle.rbbi_text.specs.Weighed.{weight_of}
 use Rattle.rbbi_text.proofs.Characters.{IsText-chars}
 use Rattle.rbbi_text.proofs.CutLemmas.{is_read, middle_read, behind_start, small_start, found_end, middle_short, edit_one, edit_many}
 use Rattle.rbbi_text.proofs.MilestoneLemmas.{pieces_small, renewed_kept}
 use Rattle.rbbi_text.proofs.pieces.edit.Goals as goal
+use Rattle.rbbi_text.proofs.pieces.edit.Goals.{After-deref-8}
 
 pub fits-requires-clause-size : goal.fits-requires-clause-size
 fits-requires-clause-size c =
@@ -109,8 +111,10 @@ starts_with-requires-clause-small c =
       c.requires.cut.whole.text.1,
     )
 
-pub returns : goal.returns
-returns c =
+-- the new pieces make the edited text
+made : (c : After-deref-8) → AreWholeCut c.put_pieces.new.pieces.items c.put_pieces.new.starts.items
+    × (joined c.put_pieces.new.pieces.items ≡ splice (joined c.args.pieces.now.items) c.args.place c.args.remove (chars c.args.insert.now))
+made c =
     let r = is_read c.args.pieces.now.items _ c.args.starts.now.items _ c.locate-first.result c.args.place c.index.result.now c.index-2.result.now
     c.requires.cut c.deref.ensures.value c.deref-2.ensures.value c.locate-first.ensures c.index.ensures c.index-2.ensures in
     let middle = middle_read _ _ _ (chars c.args.insert.now) (c.args.place + c.args.remove) c.in_ok-middle.middle.characters.items _
@@ -125,15 +129,19 @@ returns c =
     c.in_ok-new_starts.ensures ∙ ap (λ (s : List ℕ). starts_with_new s first past c.deref-7.result.now c.args.remove c.args.added) c.deref-6.ensures.value
     ∙ ap (λ (l : List (List ℕ)). starts_with_new starts first past l c.args.remove c.args.added) c.deref-7.ensures.value
     ∙ ap (λ (n : ℕ). starts_with_new starts first past c.in_ok-new.new.items c.args.remove n) c.requires.added in
-    let made = edit_many ps c.put_pieces.new.pieces.items c.in_ok-new.new.items starts c.put_pieces.new.starts.items
+    edit_many ps c.put_pieces.new.pieces.items c.in_ok-new.new.items starts c.put_pieces.new.starts.items
     c.in_ok-middle.middle.characters.items w c.args.place c.args.remove first (c.args.place - c.index.result.now) past c.requires.cut
     (IsText-chars c.args.insert.now c.utf8.insert) few r.found.within r.place (omega (arith, r.start_is, r.found.at_most)) middle
     (c.in_ok-new.ensures.same ∙ c.deref-5.ensures.value) c.in_ok-new.ensures.some c.in_ok-new.ensures.filled
     (λ enough. c.in_ok-new.ensures.all (omega (arith, enough, ap length c.deref-5.ensures.value)))
-    c.in_ok-put_pieces.ensures.pieces (c.in_ok-put_pieces.ensures.starts ∙ starts_are) in
+    c.in_ok-put_pieces.ensures.pieces (c.in_ok-put_pieces.ensures.starts ∙ starts_are)
+
+pub returns : goal.returns
+returns c =
+    let made' = made (goal.at.returns c).After-deref-8 in
     record {
-      cut = made.0;
-      text = made.1;
+      cut = made'.0;
+      text = made'.1;
       milestones = subst (λ u. AreMilestones (weight_of u) c.put_pieces.new.pieces.items c.renew.new.self.sums.items) (sym c.renew.ensures.unit)
           (subst (λ l. AreMilestones (weight_of c.args.milestones.now.unit) l c.renew.new.self.sums.items) c.deref-8.ensures.value c.renew.ensures.are);
       err = tt;
@@ -143,28 +151,9 @@ returns c =
 
 pub renew-requires-clause-small : goal.renew-requires-clause-small
 renew-requires-clause-small c =
-    let r = is_read c.args.pieces.now.items _ c.args.starts.now.items _ c.locate-first.result c.args.place c.index.result.now c.index-2.result.now
-    c.requires.cut c.deref.ensures.value c.deref-2.ensures.value c.locate-first.ensures c.index.ensures c.index-2.ensures in
-    let middle = middle_read _ _ _ (chars c.args.insert.now) (c.args.place + c.args.remove) c.in_ok-middle.middle.characters.items _
-    c.in_ok-middle.middle.past r c.deref-3.ensures.value c.deref-4.ensures.value c.index-3.ensures c.before-front.ensures c.in_ok-middle.ensures in
-    let ps : List (List ℕ) = c.args.pieces.now.items in
-    let first : ℕ = c.locate-first.result in
-    let starts : List ℕ = c.args.starts.now.items in
-    let past : ℕ = c.in_ok-middle.middle.past in
-    let w : List ℕ = chars c.args.insert.now in
-    let few : length (joined ps) - c.args.remove + length w ≤ most_characters = omega (arith, c.requires.few, c.requires.added) in
-    let starts_are : c.in_ok-new_starts.new_starts.items ≡ starts_with_new starts first past c.in_ok-new.new.items c.args.remove (length w) =
-    c.in_ok-new_starts.ensures ∙ ap (λ (s : List ℕ). starts_with_new s first past c.deref-7.result.now c.args.remove c.args.added) c.deref-6.ensures.value
-    ∙ ap (λ (l : List (List ℕ)). starts_with_new starts first past l c.args.remove c.args.added) c.deref-7.ensures.value
-    ∙ ap (λ (n : ℕ). starts_with_new starts first past c.in_ok-new.new.items c.args.remove n) c.requires.added in
-    let made = edit_many ps c.put_pieces.new.pieces.items c.in_ok-new.new.items starts c.put_pieces.new.starts.items
-    c.in_ok-middle.middle.characters.items w c.args.place c.args.remove first (c.args.place - c.index.result.now) past c.requires.cut
-    (IsText-chars c.args.insert.now c.utf8.insert) few r.found.within r.place (omega (arith, r.start_is, r.found.at_most)) middle
-    (c.in_ok-new.ensures.same ∙ c.deref-5.ensures.value) c.in_ok-new.ensures.some c.in_ok-new.ensures.filled
-    (λ enough. c.in_ok-new.ensures.all (omega (arith, enough, ap length c.deref-5.ensures.value)))
-    c.in_ok-put_pieces.ensures.pieces (c.in_ok-put_pieces.ensures.starts ∙ starts_are) in
+    let made' = made (goal.at.renew-requires-clause-small c).After-deref-8 in
     let long = ap (λ l. length (joined l)) c.deref-8.ensures.value in
-    omega (arith, pieces_small c.args.milestones.now.unit c.deref-8.result.now (omega (arith, long, made.0.whole.text.1)))
+    omega (arith, pieces_small c.args.milestones.now.unit c.deref-8.result.now (omega (arith, long, made'.0.whole.text.1)))
 
 pub renew-requires-clause-kept : goal.renew-requires-clause-kept
 renew-requires-clause-kept c =

@@ -51,12 +51,7 @@ overflow_add-result-2 c =
     let k : ℕ = c.find-front.result.count in
     let within : k < length ps = omega (arith, c.find-front.ensures.within, c.if-front-pieces.false) in
     let read : c.index-pieces-front.result ≡ get_or ps k [] = get_or_read ps k c.index-pieces-front.result within c.index-pieces-front.is [] in
-    omega (
-      arith,
-      c.fit_in-rest.ensures.within,
-      ap length (c.as_slice.ensures ∙ read),
-      end_small c.args.unit ps c.args.starts.now c.requires.cut k within,
-    )
+    omega (arith, c.fit_in-rest.ensures.within, ap length (c.as_slice.ensures ∙ read), end_small c.args.unit ps c.args.starts.now c.requires.cut k within)
 
 pub returns : goal.returns
 returns c =

@@ -21,8 +21,5 @@ returns c =
     YieldsList-end (YieldsList-from_chars c.args.text.now c.utf8.text cc) c.loop-c.yielded _ c.loop-c.yielded_by _ _ c.in-None.is c.next.ensures.steps in
     let all : c.loop-c.items.items ≡ chars c.args.text.now = c.loop-c.invariant.0 ∙ sym (map-id c.loop-c.yielded) ∙ t.0 in (
       all,
-      (
-        subst IsText (sym all) (IsText-chars c.args.text.now c.utf8.text),
-        omega (arith, ap length c.loop-c.invariant.0, c.loop-c.invariant.1),
-      ),
+      (subst IsText (sym all) (IsText-chars c.args.text.now c.utf8.text), omega (arith, ap length c.loop-c.invariant.0, c.loop-c.invariant.1)),
     )

@@ -1,7 +1,6 @@
 use Rattle.std.proofs.Common.{◌-◌, ◌<◌, length, sym, ap, ◌∙◌, arith}
 use Rattle.std.proofs.lemmas.List.{get_or_read}
-use Rattle.rbbi_bits.specs.NumberedRows.{listed_row}
-use Rattle.rbbi_bits.specs.NumberedRows.{items_of}
+use Rattle.rbbi_bits.specs.NumberedRows.{listed_row, items_of}
 use Rattle.rbbi_bits.proofs.RowLists.{items_at, items_many}
 use Rattle.rbbi_bits.proofs.Buckets.{unfound_start, unfound_next, same_rows, other_rows}
 use Rattle.rbbi_bits.proofs.numbered.NumberedRows.find.Goals as goal

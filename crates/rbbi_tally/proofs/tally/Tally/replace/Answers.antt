@@ -26,10 +26,10 @@ abbrev parts : (g : Over) (c : After-deref_mut g) → Parts c.self.inside.table.
 parts g c =
     parts_are (record { at = c.args.at; removed = c.args.remove; inserted = c.in_ok-inserted.inserted }) (chars c.args.insert.now)
     c.first_reaching-first.result c.self.invariant c.valid.ensures c.deref.ensures.value c.first_reaching-first.ensures.first c.deref-2.ensures.value
-    c.place_at-start.ensures c.len-end.ensures.exact c.in_ok-replace.ensures.0 c.in_ok-inserted.ensures.1 c.in_ok-replace.ensures.2 c.reserve.ensures.items
+    c.place_at-start.ensures c.len-end.ensures.exact c.in_ok-replace.ensures.0 c.in_ok-inserted.ensures.2 c.in_ok-replace.ensures.2 c.reserve.ensures.items
 
 small : (g : Over) (c : After-deref_mut g) → length (g.T.Chars.characters c.replace.new.self) ≤ most_characters
-small g c = omega (arith, lengths (parts g c), c.in_ok-inserted.ensures.2, c.in_ok-inserted.ensures.0, c.len-end.ensures.exact)
+small g c = omega (arith, lengths (parts g c), c.in_ok-inserted.ensures.1, c.in_ok-inserted.ensures.0, c.len-end.ensures.exact)
 
 counted : (g : Over) (c : After-deref_mut g) → AreCountsOf (length c.self.inside.table.now.lists)
     (segments_before c.reserve.new.self.items c.first_reaching-first.result ++ segments_from c.reserve.new.self.items c.first_reaching-first.result)
@@ -41,8 +41,7 @@ met : (g : Over) (c : After-search_again-met g) → AreMet c.self.inside.table.n
     (segments_from c.reserve.new.self.items c.first_reaching-first.result) (length (g.T.Chars.characters c.self.inside.text))
     (segments_by c.place_at-start.result c.search_again-met.new.items.items) c.search_again-met.result.place
     (segments_from c.reserve.new.self.items c.search_again-met.result.spot) c.deref_mut.result.now c.search_again-met.new.counts
-met g c =
-    met_is_of c.first_reaching-first.result c.search_again-met.result.spot c.search_again-met.ensures.met c.deref-3.ensures.value c.len-end.ensures.exact
+met g c = met_is_of c.first_reaching-first.result c.search_again-met.result.spot c.search_again-met.ensures.met c.deref-3.ensures.value c.len-end.ensures.exact
 
 pub overflow_sub-end-2 : goal.overflow_sub-end-2
 overflow_sub-end-2 g c =

@@ -1,6 +1,6 @@
 use Rattle.std.proofs.Common.{◌≡◌, length, chars, rules, arith}
 use Rattle.std.proofs.lemmas.Str.{chars_from_encodes}
-use Rattle.rbbi_text.proofs.plain.added.Goals as goal
+use Rattle.rbbi_text.proofs.plain.check_edit.Goals as goal
 
 pub returns-then-added-len : goal.returns-then-added-len
 returns-then-added-len c =
