@@ -33,9 +33,9 @@ pub struct ClassSet {
 /// How the words of a set are kept.
 #[derive(Debug, Drop)]
 enum Words {
-    /// In a row of the set's own.
+    /// A row of the set's own.
     Own(Vec<u64>),
-    /// In chunks, one after another, each of which many sets may share.
+    /// Chunks, one after another, each of which many sets may share.
     Shared(RcSlice<RcSlice<u64>>),
     /// The one word.
     One(u64),
@@ -222,7 +222,7 @@ impl ClassSet {
         ClassSet::of_span(alloc, all)?.remove(alloc, self)
     }
 
-    /// The words in a row of the set's own, which also has those from `first` to before `last`.
+    /// The words in the set's own row, which also has those from `first` to before `last`.
     fn into_row(self, alloc: Global, first: usize, last: usize) -> Result<WordRow, AllocError>
         requires ordered { first ≤ last }
         requires few { last ≤ 2 ^ 58 }
@@ -240,7 +240,7 @@ impl ClassSet {
         ClassSet::of_row(row).copy(alloc, first.min(from), last.max(end))
     }
 
-    /// The words in a row of the set's own. Those of another form are copied.
+    /// The words in the set's own row. Those of another form are copied.
     fn into_own_row(self, alloc: Global) -> Result<WordRow, AllocError>
         ensures { IfOk result (λ row. bits row ≡ self) }
     {

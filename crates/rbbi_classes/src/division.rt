@@ -27,7 +27,7 @@ const SURROGATES: [Step; 2] = [
 ];
 
 /// A partition of the code points by sets. Two code points are in one class exactly if none of the
-/// sets tells them apart, wherever they stand. So each set that is made of these by unions,
+/// sets distinguishes them, wherever they stand. So each set that is made of these by unions,
 /// intersections, differences and complements has all of a class or nothing of it.
 ///
 /// Classes are numbered by their least code points. Contracts see the partition as the first code
@@ -57,7 +57,7 @@ impl Model for Division {
 
 impl Division {
     /// The partition by some sets and by the set of surrogates: the classes of code points that
-    /// none of these sets tells apart, numbered by their least code points.
+    /// none of these sets distinguishes, numbered by their least code points.
     pub fn new(alloc: Global, sets: &[CodeSet]) -> Result<Division, AllocError>
         ensures respected { IfOk result (λ division. (set : List Range) → Contains sets.now set
             → IsRespected division set) }

@@ -1,4 +1,4 @@
-//! Step functions on the code points, which tell apart what sets tell apart.
+//! Step functions on the code points, which distinguish what sets distinguish.
 ghost use Rattle.std.specs.Prelude.{◌≡◌, ◌≤◌, ◌<◌, ◌+◌, ◌⊎◌, ℕ, [], ◌∷◌, List, IfOk, length};
 ghost use Rattle.std.specs.Prelude.{slice_index_or};
 ghost use Rattle.rbbi_model.specs.Ranges.{Range};
@@ -19,7 +19,7 @@ pub struct Step {
     pub number: u32,
 }
 
-/// How far a walk along steps has come: how many it has passed, and the number behind these.
+/// How far a walk along steps has come: how many it has passed, and the number after these.
 #[derive(Clone, Copy)]
 struct Walk {
     passed: usize,
@@ -54,7 +54,7 @@ pub(crate) fn steps_of(alloc: Global, sets: &[CodeSet]) -> Result<Vec<Step>, All
     Ok(steps)
 }
 
-/// The step function of one set. It changes between 0 and 1 where a range begins and behind its
+/// The step function of one set. It changes between 0 and 1 where a range begins and after its
 /// end. Its members have the number 0 if the code point 0 is one of them, and else the number 1.
 fn steps_of_set(alloc: Global, set: &CodeSet) -> Result<Vec<Step>, AllocError>
     ensures form { IfOk result (λ steps. AreSteps steps.items) }

@@ -3,7 +3,7 @@ use Rattle.std.proofs.Common.{◌≡◌, ℕ, ◌+◌, ◌<◌, ◌≤◌, List,
 use Rattle.rbbi_lex.specs.declared.token.Token.{Token}
 use Rattle.rbbi_lex.specs.declared.token.TokenKind.{TokenKind}
 use Rattle.rbbi_lex.specs.declared.state.State.{State}
-use Rattle.rbbi_lex.specs.Cases.{start_state, state_behind}
+use Rattle.rbbi_lex.specs.Cases.{start_state, state_after}
 use Rattle.rbbi_lex.specs.Spellings.{TokenAt}
 use Rattle.rbbi_lex.specs.Faults.{Fault, FaultAt}
 use Rattle.rbbi_lex.specs.Faults as Faults
@@ -11,7 +11,7 @@ use Rattle.rbbi_lex.specs.Skips.{Skipped}
 use Rattle.rbbi_lex.specs.declared.error.LexErr.{LexErr}
 use Rattle.rbbi_lex.specs.declared.error.LexErr.TheVariants.{BadChar, BadEscape, OpenQuote, OpenProperty, BadTag, BadName, Memory}
 use Rattle.rbbi_lex.specs.inner.Errors.{error_of}
-use Rattle.rbbi_lex.specs.Errors.{Tells, TellsFault}
+use Rattle.rbbi_lex.specs.Errors.{Reports, TellsFault}
 use Rattle.rbbi_lex.specs.inner.Steps.{StopsAt}
 use Rattle.rbbi_lex.specs.Lexing.{UsesUp, AreTokens, IsLexFault}
 use Rattle.rbbi_lex.specs.Places.{PlacesRise}
@@ -22,37 +22,33 @@ use Rattle.rbbi_lex.proofs.SkipLemmas.{Skipped-forward, Skipped-unique}
 
 -- one more token at the end
 pub UsesUp-push : (x : List ℕ) (from : State) (i : ℕ) (ts : List Token) (to : State) (j : ℕ) (t : Token) (k : ℕ) → UsesUp x from i ts to j →
-    Skipped x to j t.place → TokenAt x to t.place k t.kind → UsesUp x from i (ts ++ t ∷ []) (state_behind to t.kind) k
+    Skipped x to j t.place → TokenAt x to t.place k t.kind → UsesUp x from i (ts ++ t ∷ []) (state_after to t.kind) k
 UsesUp-push x from i [] to j t k u s at =
     let back = sym u.0 in
     let s' = subst (λ (v : ℕ). Skipped x from v t.place) (sym u.1) (subst (λ (v : State). Skipped x v j t.place) back s) in
-    (k, s', subst (λ (v : State). TokenAt x v t.place k t.kind) back at, (ap (λ (v : State). state_behind v t.kind) u.0, refl))
+    (k, s', subst (λ (v : State). TokenAt x v t.place k t.kind) back at, (ap (λ (v : State). state_after v t.kind) u.0, refl))
 UsesUp-push x from i (first ∷ ts) to j t k u s at =
-    (u.0, u.1, u.2, UsesUp-push x (state_behind from first.kind) u.0 ts to j t k u.3 s at)
+    (u.0, u.1, u.2, UsesUp-push x (state_after from first.kind) u.0 ts to j t k u.3 s at)
 
--- what an error tells, by what follows from it
-pub Tells-map : (P Q : Fault → ℕ → Type 0) (e : LexErr) → ((fault : Fault) (place : ℕ) → P fault place → Q fault place) → Tells P e → Tells Q e
-Tells-map P Q (BadChar place) f h = f Faults.BadChar place h
-Tells-map P Q (BadEscape place) f h = f Faults.BadEscape place h
-Tells-map P Q (OpenQuote place) f h = f Faults.OpenQuote place h
-Tells-map P Q (OpenProperty place) f h = f Faults.OpenProperty place h
-Tells-map P Q (BadTag place) f h = f Faults.BadTag place h
-Tells-map P Q (BadName place) f h = f Faults.BadName place h
-Tells-map P Q Memory f h = tt
+-- what an error reports, by what follows from it
+pub Reports-map : (P Q : Fault → ℕ → Type 0) (e : LexErr) → ((fault : Fault) (place : ℕ) → P fault place → Q fault place) → Reports P e → Reports Q e
+Reports-map P Q (BadChar place) f h = f Faults.BadChar place h
+Reports-map P Q (BadEscape place) f h = f Faults.BadEscape place h
+Reports-map P Q (OpenQuote place) f h = f Faults.OpenQuote place h
+Reports-map P Q (OpenProperty place) f h = f Faults.OpenProperty place h
+Reports-map P Q (BadTag place) f h = f Faults.BadTag place h
+Reports-map P Q (BadName place) f h = f Faults.BadName place h
+Reports-map P Q Memory f h = tt
 
--- the error for a fault tells it
-pub error_of-tells : (P : Fault → ℕ → Type 0) (fault : Fault) (place : ℕ) → P fault place → Tells P (error_of fault place)
-error_of-tells P Faults.BadChar place h = h
-error_of-tells P Faults.BadEscape place h = h
-error_of-tells P Faults.OpenQuote place h = h
-error_of-tells P Faults.OpenProperty place h = h
-error_of-tells P Faults.BadTag place h = h
-error_of-tells P Faults.BadName place h = h
+-- the error for a fault reports it
+pub error_of-reports : (P : Fault → ℕ → Type 0) (fault : Fault) (place : ℕ) → P fault place → Reports P (error_of fault place)
+error_of-reports P Faults.BadChar place h = h
+error_of-reports P fault place h = h
 
 -- the fault at which the reading stops is the first
-pub StopsAt-tells : (x : List ℕ) (ts : List Token) (to : State) (j : ℕ) (e : LexErr) → UsesUp x start_state 0 ts to j → StopsAt x to j e → TellsFault x e
-StopsAt-tells x ts to j e u s =
-    Tells-map (λ fault place. Skipped x to j place × FaultAt x to place fault) (IsLexFault x) e (λ fault place h. (ts, to, j, u, h.0, h.1)) s
+pub StopsAt-reports : (x : List ℕ) (ts : List Token) (to : State) (j : ℕ) (e : LexErr) → UsesUp x start_state 0 ts to j → StopsAt x to j e → TellsFault x e
+StopsAt-reports x ts to j e u s =
+    Reports-map (λ fault place. Skipped x to j place × FaultAt x to place fault) (IsLexFault x) e (λ fault place h. (ts, to, j, u, h.0, h.1)) s
 
 -- a step that reads a token goes forward
 pub step_forward : (x : List ℕ) (state : State) (i j k : ℕ) (kind : TokenKind) → Skipped x state i j → TokenAt x state j k kind → i < k
@@ -113,9 +109,9 @@ read_once x from i (a ∷ ts) (b ∷ us) to to' j j' d e u p v q =
     let place = Skipped-unique x from i b.place a.place v.1 u.1 in
     let same = TokenAt-unique x from a.place v.0 u.0 b.kind a.kind (subst (λ (n : ℕ). TokenAt x from n v.0 b.kind) place v.2) u.2 in
     let v' =
-    subst (λ (kind : TokenKind). UsesUp x (state_behind from kind) u.0 us to' j') same.1
-    (subst (λ (n : ℕ). UsesUp x (state_behind from b.kind) n us to' j') same.0 v.3) in
-    let rest = read_once x (state_behind from a.kind) u.0 ts us to to' j j' d e u.3 p v' q in
+    subst (λ (kind : TokenKind). UsesUp x (state_after from kind) u.0 us to' j') same.1
+    (subst (λ (n : ℕ). UsesUp x (state_after from b.kind) n us to' j') same.0 v.3) in
+    let rest = read_once x (state_after from a.kind) u.0 ts us to to' j j' d e u.3 p v' q in
     let token = Token-equal a b (sym same.1) (sym place) in
     (cc, rest.1)
 
@@ -138,10 +134,10 @@ UsesUp-rise x from low i [] to j h u = tt
 UsesUp-rise x from low i (t ∷ ts) to j h u =
     let skipped = Skipped-forward x from i t.place u.1 in
     let forward = TokenAt-forward x from t.place u.0 t.kind u.2 in
-    (omega arith, TokenAt-within x from t.place u.0 t.kind u.2, UsesUp-rise x (state_behind from t.kind) (t.place + 1) u.0 ts to j (omega arith) u.3)
+    (omega arith, TokenAt-within x from t.place u.0 t.kind u.2, UsesUp-rise x (state_after from t.kind) (t.place + 1) u.0 ts to j (omega arith) u.3)
 
 -- the tokens of a text are well made
 pub UsesUp-well_made : (x : List ℕ) (from : State) (i : ℕ) (ts : List Token) (to : State) (j : ℕ) → UsesUp x from i ts to j → AreWellMadeTokens ts
 UsesUp-well_made x from i [] to j u = tt
 UsesUp-well_made x from i (t ∷ ts) to j u =
-    (Spells-well_made x u.2.0 t.place u.0 t.kind u.2.2, UsesUp-well_made x (state_behind from t.kind) u.0 ts to j u.3)
+    (Spells-well_made x u.2.0 t.place u.0 t.kind u.2.2, UsesUp-well_made x (state_after from t.kind) u.0 ts to j u.3)

@@ -6,10 +6,10 @@ use Rattle.std.specs.Prelude.{Option, Some, ◌==◌}
 use Rattle.rbbi_lex.specs.declared.token.TokenKind.{TokenKind}
 use Rattle.rbbi_lex.specs.declared.state.State.{State}
 use Rattle.rbbi_lex.specs.declared.escape.Form.{Form}
-use Rattle.rbbi_lex.specs.declared.escape.Form.TheVariants.{FourDigits, EightDigits, BracedDigits, FewDigits, StandsFor, Unknown}
+use Rattle.rbbi_lex.specs.declared.escape.Form.TheVariants.{BracedDigits, StandsFor, Unknown}
 use Rattle.rbbi_lex.specs.declared.case.Case.{Case}
-use Rattle.rbbi_lex.specs.declared.case.Case.TheVariants.{Sign, SetSign, BracketedProperty, SetStart, Variable, ControlName, StatusNumber, QuotePair, Quotation}
-use Rattle.rbbi_lex.specs.declared.case.Case.TheVariants.{BracedProperty, Escape, Brace, BareCharacter, SetCharacter, OtherCharacter}
+use Rattle.rbbi_lex.specs.declared.case.Case.TheVariants.{Sign, SetSign, BracketedProperty, SetStart, StatusNumber, Quotation}
+use Rattle.rbbi_lex.specs.declared.case.Case.TheVariants.{Escape, Brace, BareCharacter, SetCharacter, OtherCharacter}
 use Rattle.rbbi_lex.specs.Characters.{is_sign}
 use Rattle.rbbi_lex.specs.Cases.{first_case}
 use Rattle.rbbi_lex.specs.Points.{CharacterAt, is_at, CaseAt}
@@ -31,12 +31,10 @@ pub is_at-same : (x : List ℕ) (i c sign : ℕ) → CharacterAt x i c → is_at
 is_at-same x i c sign at = ap (λ o. is_sign o sign) at
 
 EscapeGoesOn-unique : (x : List ℕ) (form : Form) (i j k c d : ℕ) → EscapeGoesOn x form i j c → EscapeGoesOn x form i k d → (j ≡ k) × (c ≡ d)
-EscapeGoesOn-unique x FourDigits i j k c d p q = (p.1 ∙ sym q.1, p.2.0 ∙ sym q.2.0)
-EscapeGoesOn-unique x EightDigits i j k c d p q = (p.1 ∙ sym q.1, p.2.0 ∙ sym q.2.0)
 EscapeGoesOn-unique x BracedDigits i j k c d p q = (p.3 ∙ sym q.3, p.4.0 ∙ sym q.4.0)
-EscapeGoesOn-unique x FewDigits i j k c d p q = (p.1 ∙ sym q.1, p.2.0 ∙ sym q.2.0)
 EscapeGoesOn-unique x (StandsFor e) i j k c d p q = (p.0 ∙ sym q.0, p.1 ∙ sym q.1)
 EscapeGoesOn-unique x Unknown i j k c d p q = absurd p
+EscapeGoesOn-unique x form i j k c d p q = (p.1 ∙ sym q.1, p.2.0 ∙ sym q.2.0)
 
 IsEscape-unique : (x : List ℕ) (i j k c d : ℕ) → IsEscape x i j c → IsEscape x i k d → (j ≡ k) × (c ≡ d)
 IsEscape-unique x i j k c d p q =
@@ -110,16 +108,13 @@ Spells-unique x Sign i j k a b p q = (p.1 ∙ sym q.1, same_Some a b _ p.0 q.0)
 Spells-unique x SetSign i j k a b p q = (p.1 ∙ sym q.1, same_Some a b _ p.0 q.0)
 Spells-unique x BracketedProperty i j k a b p q = (p.2 ∙ sym q.2, p.3 ∙ sym q.3)
 Spells-unique x SetStart i j k a b p q = (p.0 ∙ sym q.0, p.1 ∙ sym q.1)
-Spells-unique x Variable i j k a b p q = (p.1 ∙ sym q.1, p.2 ∙ sym q.2)
-Spells-unique x ControlName i j k a b p q = (p.1 ∙ sym q.1, p.2 ∙ sym q.2)
 Spells-unique x StatusNumber i j k a b p q = (p.3 ∙ sym q.3, p.4 ∙ sym q.4)
-Spells-unique x QuotePair i j k a b p q = (p.1 ∙ sym q.1, p.2 ∙ sym q.2)
 Spells-unique x Quotation i j k a b p q =
     let same = QuotesUpTo-unique x (i + 1) p.1.1 q.1.1 p.1.0 q.1.0 p.1.2 q.1.2 in (cc, cc)
-Spells-unique x BracedProperty i j k a b p q = (p.1 ∙ sym q.1, p.2 ∙ sym q.2)
 Spells-unique x Escape i j k a b p q =
     let same = IsEscape-unique x i j k p.0 q.0 p.1 q.1 in (same.0, cc)
 Spells-unique x Brace i j k a b p q = absurd p
 Spells-unique x BareCharacter i j k a b p q = (p.1 ∙ sym q.1, same_Some a b _ p.0 q.0)
 Spells-unique x SetCharacter i j k a b p q = (p.1 ∙ sym q.1, same_Some a b _ p.0 q.0)
 Spells-unique x OtherCharacter i j k a b p q = absurd p
+Spells-unique x case i j k a b p q = (p.1 ∙ sym q.1, p.2 ∙ sym q.2)

@@ -2,15 +2,15 @@
 use Rattle.std.proofs.Common.{◌≡◌, ℕ, ◌+◌, ◌<◌, ◌≤◌, List, length, sym, ap, subst, ◌∙◌, arith, slice_get}
 use Rattle.std.proofs.lemmas.Option.{slice_get_within}
 use Rattle.rbbi_lex.specs.declared.token.TokenKind.{TokenKind}
-use Rattle.rbbi_lex.specs.declared.token.TokenKind.TheVariants.{SetOpen, SetClose}
+use Rattle.rbbi_lex.specs.declared.token.TokenKind.TheVariants.{SetOpen}
 use Rattle.rbbi_lex.specs.declared.state.State.{State}
-use Rattle.rbbi_lex.specs.Cases.{state_behind}
+use Rattle.rbbi_lex.specs.Cases.{state_after}
 use Rattle.rbbi_lex.specs.declared.escape.Form.{Form}
-use Rattle.rbbi_lex.specs.declared.escape.Form.TheVariants.{FourDigits, EightDigits, BracedDigits, FewDigits, StandsFor, Unknown}
+use Rattle.rbbi_lex.specs.declared.escape.Form.TheVariants.{BracedDigits, FewDigits, StandsFor, Unknown}
 use Rattle.rbbi_lex.specs.declared.stretch.Stretch.TheVariants.{NameText, ControlText, HexadecimalDigits}
 use Rattle.rbbi_lex.specs.declared.case.Case.{Case}
-use Rattle.rbbi_lex.specs.declared.case.Case.TheVariants.{Sign, SetSign, BracketedProperty, SetStart, Variable, ControlName, StatusNumber, QuotePair, Quotation}
-use Rattle.rbbi_lex.specs.declared.case.Case.TheVariants.{BracedProperty, Escape, Brace, BareCharacter, SetCharacter, OtherCharacter}
+use Rattle.rbbi_lex.specs.declared.case.Case.TheVariants.{BracketedProperty, SetStart, Variable, ControlName, StatusNumber, QuotePair, Quotation}
+use Rattle.rbbi_lex.specs.declared.case.Case.TheVariants.{BracedProperty, Escape, Brace, OtherCharacter}
 use Rattle.rbbi_lex.specs.Characters.{is_name_start}
 use Rattle.rbbi_lex.specs.Escapes.{form_of, braced_end, EscapeGoesOn, IsEscape}
 use Rattle.rbbi_lex.specs.Spellings.{tag_close, SpellsCase, TokenAt}
@@ -19,16 +19,14 @@ use Rattle.rbbi_lex.proofs.StretchLemmas.{stretch_end-within, stretch_end-moved,
 use Rattle.rbbi_lex.proofs.PointLemmas.{CaseAt-unique, QuotesUpTo-forward, QuotesUpTo-close, Spells-unique}
 
 EscapeGoesOn-bounds : (x : List ℕ) (form : Form) (i j c : ℕ) → i ≤ length x → EscapeGoesOn x form i j c → (i ≤ j) × (j ≤ length x)
-EscapeGoesOn-bounds x FourDigits i j c h p =
-    let ends = stretch_end-within HexadecimalDigits x i h in (omega (arith, p.1), omega (arith, p.0, p.1, ends))
-EscapeGoesOn-bounds x EightDigits i j c h p =
-    let ends = stretch_end-within HexadecimalDigits x i h in (omega (arith, p.1), omega (arith, p.0, p.1, ends))
 EscapeGoesOn-bounds x BracedDigits i j c h p =
     let close = is_at-within x (braced_end x i) 125 p.2 in (omega (arith, p.0, p.3), omega (arith, p.3, close))
 EscapeGoesOn-bounds x FewDigits i j c h p =
     let ends = stretch_end-within HexadecimalDigits x i h in (omega (arith, p.0, p.1), omega (arith, p.0, p.1, ends))
 EscapeGoesOn-bounds x (StandsFor d) i j c h p = (omega (arith, p.0), omega (arith, p.0))
 EscapeGoesOn-bounds x Unknown i j c h p = absurd p
+EscapeGoesOn-bounds x form i j c h p =
+    let ends = stretch_end-within HexadecimalDigits x i h in (omega (arith, p.1), omega (arith, p.0, p.1, ends))
 
 IsEscape-bounds : (x : List ℕ) (i j c : ℕ) → IsEscape x i j c → (i < j) × (j ≤ length x)
 IsEscape-bounds x i j c p =
@@ -38,8 +36,6 @@ IsEscape-bounds x i j c p =
 
 -- a token goes forward, and ends within the text
 Spells-bounds : (x : List ℕ) (case : Case) (i j : ℕ) (kind : TokenKind) → i < length x → SpellsCase x case i j kind → (i < j) × (j ≤ length x)
-Spells-bounds x Sign i j kind h p = (omega (arith, p.1), omega (arith, p.1))
-Spells-bounds x SetSign i j kind h p = (omega (arith, p.1), omega (arith, p.1))
 Spells-bounds x BracketedProperty i j kind h p =
     let close = is_at-within x _ 93 p.1 in (omega (arith, p.2), omega (arith, p.2, close))
 Spells-bounds x SetStart i j kind h p = (omega (arith, p.0), omega (arith, p.0))
@@ -60,9 +56,8 @@ Spells-bounds x BracedProperty i j kind h p =
     let close = is_at-within x _ 125 p.0 in (omega (arith, p.1), omega (arith, p.1, close))
 Spells-bounds x Escape i j kind h p = IsEscape-bounds x i j p.0 p.1
 Spells-bounds x Brace i j kind h p = absurd p
-Spells-bounds x BareCharacter i j kind h p = (omega (arith, p.1), omega (arith, p.1))
-Spells-bounds x SetCharacter i j kind h p = (omega (arith, p.1), omega (arith, p.1))
 Spells-bounds x OtherCharacter i j kind h p = absurd p
+Spells-bounds x case i j kind h p = (omega (arith, p.1), omega (arith, p.1))
 
 -- a token stands within the text
 pub TokenAt-within : (x : List ℕ) (state : State) (i j : ℕ) (kind : TokenKind) → TokenAt x state i j kind → i < length x
@@ -100,7 +95,6 @@ TokenAt-no_fault x state i j kind fault t f =
     f.2 j kind (subst (λ (case : Case). SpellsCase x case i j kind) same t.2)
 
 -- a token opens at most one bracket
-pub state_after-depth : (state : State) (kind : TokenKind) → (state_behind state kind).depth ≤ state.depth + 1
+pub state_after-depth : (state : State) (kind : TokenKind) → (state_after state kind).depth ≤ state.depth + 1
 state_after-depth state SetOpen = omega arith
-state_after-depth state SetClose = omega arith
 state_after-depth state _ = omega arith

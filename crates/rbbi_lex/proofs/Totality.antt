@@ -11,7 +11,7 @@ use Rattle.rbbi_lex.specs.declared.state.State.{State}
 use Rattle.rbbi_lex.specs.declared.case.Case.{Case}
 use Rattle.rbbi_lex.specs.declared.case.Case.TheVariants.{Sign, SetSign, BracketedProperty, SetStart, Variable, ControlName, StatusNumber, QuotePair, Quotation}
 use Rattle.rbbi_lex.specs.declared.case.Case.TheVariants.{BracedProperty, Escape, Brace, BareCharacter, SetCharacter, OtherCharacter}
-use Rattle.rbbi_lex.specs.Cases.{start_state, state_behind, fits, outer_cases, inner_cases, first_case}
+use Rattle.rbbi_lex.specs.Cases.{start_state, state_after, fits, outer_cases, inner_cases, first_case}
 use Rattle.rbbi_lex.specs.Points.{CharacterAt, CaseAt}
 use Rattle.rbbi_lex.specs.Spellings.{SpellsCase, TokenAt}
 use Rattle.rbbi_lex.specs.Faults.{Fault, fault_of, FaultAt}
@@ -99,7 +99,7 @@ some_reading (suc n) x from i h l =
                 let token : Token = record { kind = t.1; place = s.0 } in
                 let ends = TokenAt-ends x from s.0 t.0 t.1 t.2 in
                 let further = TokenAt-forward x from s.0 t.0 t.1 t.2 in
-                let rest = some_reading n x (state_behind from t.1) t.0 ends (omega arith) in
+                let rest = some_reading n x (state_after from t.1) t.0 ends (omega arith) in
                 (token ∷ rest.0, rest.1, rest.2, rest.3, (t.0, s.1, t.2, rest.4), rest.5)
           ]
     ]

@@ -6,8 +6,8 @@ use Rattle.rbbi_lex.specs.declared.token.TokenKind.{TokenKind}
 use Rattle.rbbi_lex.specs.declared.token.TokenKind.TheVariants.{Semi, Equals, Bar, Slash, Caret, Star, Plus, Quest, Dot, ParenOpen, ParenClose, SetClose}
 use Rattle.rbbi_lex.specs.declared.token.TokenKind.TheVariants.{Hyphen, Amp, Char}
 use Rattle.rbbi_lex.specs.declared.case.Case.{Case}
-use Rattle.rbbi_lex.specs.declared.case.Case.TheVariants.{Sign, SetSign, BracketedProperty, SetStart, Variable, ControlName, StatusNumber, QuotePair, Quotation}
-use Rattle.rbbi_lex.specs.declared.case.Case.TheVariants.{BracedProperty, Escape, Brace, BareCharacter, SetCharacter, OtherCharacter}
+use Rattle.rbbi_lex.specs.declared.case.Case.TheVariants.{Sign, SetSign, BracketedProperty, SetStart, StatusNumber, Quotation}
+use Rattle.rbbi_lex.specs.declared.case.Case.TheVariants.{Brace, BareCharacter, SetCharacter, OtherCharacter}
 use Rattle.rbbi_lex.specs.Cases.{outer_sign, inner_sign}
 use Rattle.rbbi_lex.specs.Points.{is_at}
 use Rattle.rbbi_lex.specs.Quotations.{QuotesUpTo}
@@ -65,15 +65,11 @@ Spells-well_made x SetSign i j kind p =
     made kind (subst HasWellMade p.0 (at_sign inner_sign (slice_get x i) inner))
 Spells-well_made x BracketedProperty i j kind p = subst IsWellMadeKind (sym p.3) tt
 Spells-well_made x SetStart i j kind p = subst IsWellMadeKind (sym p.1) tt
-Spells-well_made x Variable i j kind p = subst IsWellMadeKind (sym p.2) tt
-Spells-well_made x ControlName i j kind p = subst IsWellMadeKind (sym p.2) tt
 Spells-well_made x StatusNumber i j kind p = subst IsWellMadeKind (sym p.4) p.2
-Spells-well_made x QuotePair i j kind p = subst IsWellMadeKind (sym p.2) tt
 Spells-well_made x Quotation i j kind p =
     subst IsWellMadeKind (sym p.1.4) (quoted_some x (i + 1) p.1.0 p.1.1 p.0 p.1.2)
-Spells-well_made x BracedProperty i j kind p = subst IsWellMadeKind (sym p.2) tt
-Spells-well_made x Escape i j kind p = subst IsWellMadeKind (sym p.2) tt
 Spells-well_made x Brace i j kind p = absurd p
 Spells-well_made x BareCharacter i j kind p = made kind (subst HasWellMade p.0 (at_bare (slice_get x i)))
 Spells-well_made x SetCharacter i j kind p = made kind (subst HasWellMade p.0 (at_bare (slice_get x i)))
 Spells-well_made x OtherCharacter i j kind p = absurd p
+Spells-well_made x case i j kind p = subst IsWellMadeKind (sym p.2) tt

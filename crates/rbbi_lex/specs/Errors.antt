@@ -1,25 +1,24 @@
 -- What the errors of the lexer say.
-use Rattle.std.specs.Prelude.{ℕ, List, codes}
-use Rattle.std.specs.Prelude.{Option, None, Some}
+use Rattle.std.specs.Prelude.{ℕ, List, codes, Option, None, Some}
 use Rattle.rbbi_lex.specs.declared.error.LexErr.{LexErr}
 use Rattle.rbbi_lex.specs.declared.error.LexErr.TheVariants.{BadChar, BadEscape, OpenQuote, OpenProperty, BadTag, BadName, Memory}
 use Rattle.rbbi_lex.specs.Faults.{Fault}
 use Rattle.rbbi_lex.specs.Faults as Faults
 use Rattle.rbbi_lex.specs.Lexing.{IsLexFault}
 
--- the error tells of a fault and a place that this holds; want of memory tells nothing
-abbrev pub Tells : (Fault → ℕ → Type 0) → LexErr → Type 0
-Tells P (BadChar place) = P Faults.BadChar place
-Tells P (BadEscape place) = P Faults.BadEscape place
-Tells P (OpenQuote place) = P Faults.OpenQuote place
-Tells P (OpenProperty place) = P Faults.OpenProperty place
-Tells P (BadTag place) = P Faults.BadTag place
-Tells P (BadName place) = P Faults.BadName place
-Tells P Memory = Unit {0}
+-- this holds of the fault and the place that the error reports; running out of memory reports none
+abbrev pub Reports : (Fault → ℕ → Type 0) → LexErr → Type 0
+Reports P (BadChar place) = P Faults.BadChar place
+Reports P (BadEscape place) = P Faults.BadEscape place
+Reports P (OpenQuote place) = P Faults.OpenQuote place
+Reports P (OpenProperty place) = P Faults.OpenProperty place
+Reports P (BadTag place) = P Faults.BadTag place
+Reports P (BadName place) = P Faults.BadName place
+Reports P Memory = Unit {0}
 
--- the error tells the first fault of the text
+-- the error reports the first fault of the text
 abbrev pub TellsFault : List ℕ → LexErr → Type 0
-TellsFault x e = Tells (IsLexFault x) e
+TellsFault x e = Reports (IsLexFault x) e
 
 -- the name of the error
 abbrev pub label_of : LexErr → List ℕ

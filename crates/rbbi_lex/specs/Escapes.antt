@@ -1,10 +1,9 @@
--- Escapes, by their table: what the characters behind a `\` stand for.
-use Rattle.std.specs.Prelude.{ℕ, ◌≡◌, ◌+◌, ◌<◌, ◌≤◌, min, ◌==◌, if◌then◌else◌, IsTrue, List, slice_get, slice_range}
-use Rattle.std.specs.Prelude.{Option}
+-- Escapes, by their table: what the characters after a `\` stand for.
+use Prim.Native.Char.{code}
+use Rattle.std.specs.Prelude.{ℕ, ◌≡◌, ◌+◌, ◌<◌, ◌≤◌, min, ◌==◌, if◌then◌else◌, IsTrue, List, slice_get, slice_range, Option}
 use Rattle.std.specs.Char.{IsScalar, is_ascii_alphanumeric}
 use Rattle.rbbi_text.specs.Numbers.{number}
-use Rattle.rbbi_lex.specs.Signs.{backspace, bell, brace_close, brace_open, capital_u, carriage_return, escape_character, form_feed, letter_a, letter_b}
-use Rattle.rbbi_lex.specs.Signs.{letter_e, letter_f, letter_n, letter_r, letter_t, letter_u, letter_v, letter_x, line_feed, tab, vertical_tab}
+use Rattle.rbbi_lex.specs.Signs.{backspace, bell, carriage_return, escape_character, form_feed, line_feed, tab, vertical_tab}
 use Rattle.rbbi_lex.specs.declared.escape.Form.{Form}
 use Rattle.rbbi_lex.specs.declared.escape.Form.TheVariants.{FourDigits, EightDigits, BracedDigits, FewDigits, StandsFor, Unknown}
 use Rattle.rbbi_lex.specs.declared.stretch.Stretch.TheVariants.{HexadecimalDigits}
@@ -12,27 +11,27 @@ use Rattle.rbbi_lex.specs.Characters.{is_sign}
 use Rattle.rbbi_lex.specs.Stretches.{stretch_end}
 use Rattle.rbbi_lex.specs.Points.{CharacterAt, is_at}
 
--- the form of an escape, by the character behind the `\` and the next one
+-- the form of an escape, by the character after the `\` and the next one
 unfoldable pub form_of : ℕ → Option ℕ → Form
 form_of c next =
-    if c == letter_u then FourDigits else
-    (if c == capital_u then EightDigits else
-    (if c == letter_x then (if is_sign next brace_open then BracedDigits else FewDigits) else
-    (if c == letter_a then StandsFor bell else
-    (if c == letter_b then StandsFor backspace else
-    (if c == letter_e then StandsFor escape_character else
-    (if c == letter_f then StandsFor form_feed else
-    (if c == letter_n then StandsFor line_feed else
-    (if c == letter_r then StandsFor carriage_return else
-    (if c == letter_t then StandsFor tab else
-    (if c == letter_v then StandsFor vertical_tab else
+    if c == code "u" then FourDigits else
+    (if c == code "U" then EightDigits else
+    (if c == code "x" then (if is_sign next (code "{") then BracedDigits else FewDigits) else
+    (if c == code "a" then StandsFor bell else
+    (if c == code "b" then StandsFor backspace else
+    (if c == code "e" then StandsFor escape_character else
+    (if c == code "f" then StandsFor form_feed else
+    (if c == code "n" then StandsFor line_feed else
+    (if c == code "r" then StandsFor carriage_return else
+    (if c == code "t" then StandsFor tab else
+    (if c == code "v" then StandsFor vertical_tab else
     (if is_ascii_alphanumeric c then Unknown else StandsFor c)))))))))))
 
 -- the digits from one place to another write this character
 abbrev pub WritesCharacter : List ℕ → ℕ → ℕ → ℕ → Type 0
 WritesCharacter x i j c = (c ≡ number 16 (slice_range x i j)) × IsScalar c
 
--- behind the first two characters of an escape: so many digits
+-- after the first two characters of an escape: so many digits
 abbrev pub FixedDigits : List ℕ → ℕ → ℕ → ℕ → ℕ → Type 0
 FixedDigits x n i j c =
     (i + n ≤ stretch_end HexadecimalDigits x i) × (j ≡ i + n) × WritesCharacter x i (i + n) c
@@ -44,10 +43,10 @@ braced_end x i = stretch_end HexadecimalDigits x (i + 1)
 -- one to six digits in braces
 abbrev pub DigitsInBraces : List ℕ → ℕ → ℕ → ℕ → Type 0
 DigitsInBraces x i j c =
-    (i + 1 < braced_end x i) × (braced_end x i ≤ i + 7) × IsTrue (is_at x (braced_end x i) brace_close)
+    (i + 1 < braced_end x i) × (braced_end x i ≤ i + 7) × IsTrue (is_at x (braced_end x i) (code "}"))
     × (j ≡ braced_end x i + 1) × WritesCharacter x (i + 1) (braced_end x i) c
 
--- the place behind the longer of one or two digits
+-- the place after the longer of one or two digits
 abbrev pub few_end : List ℕ → ℕ → ℕ
 few_end x i = min (stretch_end HexadecimalDigits x i) (i + 2)
 
@@ -56,7 +55,7 @@ abbrev pub OneOrTwoDigits : List ℕ → ℕ → ℕ → ℕ → Type 0
 OneOrTwoDigits x i j c =
     (i < stretch_end HexadecimalDigits x i) × (j ≡ few_end x i) × WritesCharacter x i (few_end x i) c
 
--- behind the first two characters an escape of this form goes on from one place to another, and
+-- after the first two characters an escape of this form goes on from one place to another, and
 -- stands for this character
 abbrev pub EscapeGoesOn : List ℕ → Form → ℕ → ℕ → ℕ → Type 0
 EscapeGoesOn x FourDigits i j c = FixedDigits x 4 i j c

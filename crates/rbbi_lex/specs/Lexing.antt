@@ -2,7 +2,7 @@
 use Rattle.std.specs.Prelude.{ℕ, ◌≡◌, List, [], ◌∷◌, length}
 use Rattle.rbbi_lex.specs.declared.token.Token.{Token}
 use Rattle.rbbi_lex.specs.declared.state.State.{State}
-use Rattle.rbbi_lex.specs.Cases.{start_state, state_behind}
+use Rattle.rbbi_lex.specs.Cases.{start_state, state_after}
 use Rattle.rbbi_lex.specs.Spellings.{TokenAt}
 use Rattle.rbbi_lex.specs.Faults.{Fault, FaultAt}
 use Rattle.rbbi_lex.specs.Skips.{Skipped}
@@ -12,7 +12,7 @@ abbrev pub UsesUp : List ℕ → State → ℕ → List Token → State → ℕ 
 UsesUp x from i [] to j = (from ≡ to) × (i ≡ j)
 UsesUp x from i (t ∷ ts) to j =
     (next : ℕ) × Skipped x from i t.place × TokenAt x from t.place next t.kind
-    × UsesUp x (state_behind from t.kind) next ts to j
+    × UsesUp x (state_after from t.kind) next ts to j
 
 -- the tokens of the text: skipped pieces and they in turn use it up
 abbrev pub AreTokens : List ℕ → List Token → Type 0

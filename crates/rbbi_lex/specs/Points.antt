@@ -1,6 +1,5 @@
 -- What stands at a place of a text, and the case of the table that decides there.
-use Rattle.std.specs.Prelude.{ℕ, ◌≡◌, ◌+◌, Bool, List, slice_get}
-use Rattle.std.specs.Prelude.{Some}
+use Rattle.std.specs.Prelude.{ℕ, ◌≡◌, ◌+◌, Bool, List, slice_get, Some}
 use Rattle.rbbi_lex.specs.declared.state.State.{State}
 use Rattle.rbbi_lex.specs.declared.case.Case.{Case}
 use Rattle.rbbi_lex.specs.Characters.{is_sign}

@@ -1,6 +1,6 @@
 -- What is skipped between tokens.
+use Prim.Native.Char.{code}
 use Rattle.std.specs.Prelude.{ℕ, zero, suc, ◌≡◌, ◌+◌, ◌⊎◌, IsTrue, List, slice_get}
-use Rattle.rbbi_lex.specs.Signs.{number_sign}
 use Rattle.unicode.specs.Binary.{is_pattern_white_space}
 use Rattle.rbbi_lex.specs.declared.state.State.{State}
 use Rattle.rbbi_lex.specs.declared.stretch.Stretch.TheVariants.{CommentText}
@@ -16,7 +16,7 @@ IsWhite x i j = IsTrue (passes is_pattern_white_space (slice_get x i)) × (j ≡
 -- or the end
 abbrev pub IsComment : List ℕ → State → ℕ → ℕ → Type 0
 IsComment x state i j =
-    (state.depth ≡ 0) × IsTrue (is_at x i number_sign) × (j ≡ stretch_end CommentText x (i + 1))
+    (state.depth ≡ 0) × IsTrue (is_at x i (code "#")) × (j ≡ stretch_end CommentText x (i + 1))
 
 -- the characters from one place to another are skipped at once
 abbrev pub Piece : List ℕ → State → ℕ → ℕ → Type 0

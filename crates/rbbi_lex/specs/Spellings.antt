@@ -1,7 +1,6 @@
 -- What a case of the table spells from a place on, one definition for each case, and the token at a place.
-use Rattle.std.specs.Prelude.{ℕ, ◌≡◌, ◌+◌, ◌<◌, ◌≤◌, true, false, IsTrue, List, slice_get, slice_range}
-use Rattle.std.specs.Prelude.{Option, Some, option_map, option_and_then}
-use Rattle.rbbi_lex.specs.Signs.{brace_close, quote}
+use Prim.Native.Char.{code}
+use Rattle.std.specs.Prelude.{ℕ, ◌≡◌, ◌+◌, ◌<◌, ◌≤◌, true, false, IsTrue, List, slice_get, slice_range, Option, Some, option_map, option_and_then}
 use Rattle.rbbi_lex.specs.declared.token.TokenKind.{TokenKind}
 use Rattle.rbbi_lex.specs.declared.token.TokenKind.TheVariants.{SetOpen, Char, Quoted, Name, Control, Tag}
 use Rattle.rbbi_lex.specs.declared.state.State.{State}
@@ -30,13 +29,13 @@ SpellsSign signs x i j kind = (option_and_then signs (slice_get x i) ≡ Some ki
 abbrev pub SpellsBare : List ℕ → ℕ → ℕ → TokenKind → Type 0
 SpellsBare x i j kind = (option_map (λ c. Char c true) (slice_get x i) ≡ Some kind) × (j ≡ i + 1)
 
--- `$` and the longest name behind it
+-- `$` and the longest name after it
 abbrev pub SpellsName : List ℕ → ℕ → ℕ → TokenKind → Type 0
 SpellsName x i j kind =
     IsTrue (passes is_name_start (slice_get x (i + 1))) × (j ≡ stretch_end NameText x (i + 1))
     × (kind ≡ Name (slice_range x (i + 1) (stretch_end NameText x (i + 1))))
 
--- `!!` and the longest stretch of letters, digits and `_` behind it, which isn't empty
+-- `!!` and the longest stretch of letters, digits and `_` after it, which isn't empty
 abbrev pub SpellsControl : List ℕ → ℕ → ℕ → TokenKind → Type 0
 SpellsControl x i j kind =
     (i + 2 < stretch_end ControlText x (i + 2)) × (j ≡ stretch_end ControlText x (i + 2))
@@ -59,17 +58,17 @@ tag_number x i = number 10 (slice_range x (digits_start x i) (digits_end x i))
 -- `{`, white space, digits, white space and `}`
 abbrev pub SpellsTag : List ℕ → ℕ → ℕ → TokenKind → Type 0
 SpellsTag x i j kind =
-    (digits_start x i < digits_end x i) × IsTrue (is_at x (tag_close x i) brace_close)
+    (digits_start x i < digits_end x i) × IsTrue (is_at x (tag_close x i) (code "}"))
     × (tag_number x i ≤ most_tag) × (j ≡ tag_close x i + 1) × (kind ≡ Tag (tag_number x i))
 
 -- `''`, which is one quote
 abbrev pub SpellsQuotePair : List ℕ → ℕ → ℕ → TokenKind → Type 0
-SpellsQuotePair x i j kind = IsTrue (is_at x (i + 1) quote) × (j ≡ i + 2) × (kind ≡ Char quote false)
+SpellsQuotePair x i j kind = IsTrue (is_at x (i + 1) (code "'")) × (j ≡ i + 2) × (kind ≡ Char (code "'") false)
 
 -- a quote that no other follows, characters, and the quote that closes
 abbrev pub SpellsQuotation : List ℕ → ℕ → ℕ → TokenKind → Type 0
 SpellsQuotation x i j kind =
-    (is_at x (i + 1) quote ≡ false)
+    (is_at x (i + 1) (code "'") ≡ false)
     × ((word : List ℕ) × (close : ℕ) × QuotesUpTo x (i + 1) word close × (j ≡ close + 1) × (kind ≡ Quoted word))
 
 -- an escaped character

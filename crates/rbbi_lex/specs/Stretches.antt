@@ -1,7 +1,6 @@
 -- Stretches: the longest pieces of a text whose characters belong together.
-use Rattle.std.specs.Prelude.{ℕ, false, true, ◌<◌, ◌≤◌, ◌≡◌, Bool, ◌||◌, ◌&&◌, ◌==◌, not, if◌then◌else◌, ◌+◌, List, [], ◌∷◌, drop, slice_get}
-use Rattle.std.specs.Prelude.{Option}
-use Rattle.rbbi_lex.specs.Signs.{brace_close, bracket_close, colon, equals_sign}
+use Prim.Native.Char.{code}
+use Rattle.std.specs.Prelude.{ℕ, false, true, ◌<◌, ◌≤◌, ◌≡◌, Bool, ◌||◌, ◌&&◌, ◌==◌, not, if◌then◌else◌, ◌+◌, List, [], ◌∷◌, drop, slice_get, Option}
 use Rattle.std.specs.Char.{is_ascii_digit, is_ascii_hexdigit}
 use Rattle.unicode.specs.Binary.{is_pattern_white_space}
 use Rattle.rbbi_lex.specs.declared.stretch.Stretch.{Stretch}
@@ -9,7 +8,7 @@ use Rattle.rbbi_lex.specs.declared.stretch.Stretch.TheVariants.{WhiteSpace, Comm
 use Rattle.rbbi_lex.specs.declared.stretch.Stretch.TheVariants.{BracedBody, BracedName, BracketedBody, BracketedName}
 use Rattle.rbbi_lex.specs.Characters.{is_line_end, is_name_character, is_word_character, is_sign, passes}
 
--- the stretch goes on with this character, with that one, or none, behind it
+-- the stretch goes on with this character, with that one, or none, after it
 abbrev pub goes_on : Stretch → ℕ → Option ℕ → Bool
 goes_on WhiteSpace c next = is_pattern_white_space c
 goes_on CommentText c next = not (is_line_end c)
@@ -17,10 +16,10 @@ goes_on NameText c next = is_name_character c
 goes_on ControlText c next = is_word_character c
 goes_on Digits c next = is_ascii_digit c
 goes_on HexadecimalDigits c next = is_ascii_hexdigit c
-goes_on BracedBody c next = not (is_line_end c || c == brace_close)
-goes_on BracedName c next = not (is_line_end c || c == brace_close || c == equals_sign)
-goes_on BracketedBody c next = not (is_line_end c || (c == colon && is_sign next bracket_close))
-goes_on BracketedName c next = not (is_line_end c || (c == colon && is_sign next bracket_close) || c == equals_sign)
+goes_on BracedBody c next = not (is_line_end c || c == code "}")
+goes_on BracedName c next = not (is_line_end c || c == code "}" || c == code "=")
+goes_on BracketedBody c next = not (is_line_end c || (c == code ":" && is_sign next (code "]")))
+goes_on BracketedName c next = not (is_line_end c || (c == code ":" && is_sign next (code "]")) || c == code "=")
 
 -- how many characters from the front on belong to the stretch
 abbrev pub stretch_len : Stretch → List ℕ → ℕ

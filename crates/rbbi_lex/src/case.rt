@@ -53,10 +53,8 @@ impl Case {
         ensures { result ≡ error_of (fault_of self) place }
     {
         match self {
-            Case::BracketedProperty => LexErr::OpenProperty(place),
-            Case::BracedProperty => LexErr::OpenProperty(place),
-            Case::Variable => LexErr::BadName(place),
-            Case::ControlName => LexErr::BadName(place),
+            Case::BracketedProperty | Case::BracedProperty => LexErr::OpenProperty(place),
+            Case::Variable | Case::ControlName => LexErr::BadName(place),
             Case::StatusNumber => LexErr::BadTag(place),
             Case::Quotation => LexErr::OpenQuote(place),
             Case::Escape => LexErr::BadEscape(place),
@@ -65,14 +63,14 @@ impl Case {
     }
 }
 
-/// Whether these two characters behind a `\` begin a property.
+/// Whether these two characters after a `\` begin a property.
 fn begins_property(next: Option<char>, third: Option<char>) -> bool
     ensures { result ≡ ((is_sign next 112 || is_sign next 80) && is_sign third 123) }
 {
     (is_sign(next, 'p') || is_sign(next, 'P')) && is_sign(third, '{')
 }
 
-/// The first case outside of sets that fits at a character with two others, or none, behind it.
+/// The first case outside of sets that fits at a character with two others, or none, after it.
 fn outer_row(c: char, next: Option<char>, third: Option<char>) -> Case
     ensures { find (fits c next third) outer_cases ≡ Some result }
 {
@@ -94,7 +92,7 @@ fn outer_row(c: char, next: Option<char>, third: Option<char>) -> Case
     }
 }
 
-/// The first case inside of sets that fits at a character with two others, or none, behind it.
+/// The first case inside of sets that fits at a character with two others, or none, after it.
 fn inner_row(c: char, next: Option<char>, third: Option<char>) -> Case
     ensures { find (fits c next third) inner_cases ≡ Some result }
 {
@@ -105,15 +103,14 @@ fn inner_row(c: char, next: Option<char>, third: Option<char>) -> Case
         '[' if is_sign(next, ':') => Case::BracketedProperty,
         '[' => Case::SetStart,
         '$' => Case::Variable,
-        '{' => Case::Brace,
-        '}' => Case::Brace,
+        '{' | '}' => Case::Brace,
         '\\' if begins_property(next, third) => Case::BracedProperty,
         '\\' => Case::Escape,
         _ => Case::SetCharacter,
     }
 }
 
-/// The first case that fits at a character with two others, or none, behind it.
+/// The first case that fits at a character with two others, or none, after it.
 pub(crate) fn case_of(state: &State, c: char, next: Option<char>, third: Option<char>) -> Case
     ensures { first_case state.now c next third ≡ Some result }
 {

@@ -22,7 +22,7 @@ use rbbi_text::number_of_characters;
 /// The greatest code point.
 const MOST_CODE_POINT: u32 = 0x10_FFFF;
 
-/// The form of an escape, by what stands behind its `\`.
+/// The form of an escape, by what stands after its `\`.
 #[derive(Clone, Copy)]
 pub(crate) enum Form {
     /// Four hexadecimal digits.
@@ -39,14 +39,14 @@ pub(crate) enum Form {
     Unknown,
 }
 
-/// An escaped character, and the place behind its escape.
+/// An escaped character, and the place after its escape.
 #[derive(Clone, Copy)]
 pub(crate) struct Escaped {
     pub character: char,
     pub end: usize,
 }
 
-/// The form of an escape, by the character behind the `\` and the next one.
+/// The form of an escape, by the character after the `\` and the next one.
 #[tactic(auto, unfolding(crate::specs::Escapes::form_of))]
 fn form_of(c: char, next: Option<char>) -> Form
     ensures { result ≡ form_of c next }
@@ -130,7 +130,7 @@ fn few_digits(text: &[char], from: usize) -> Option<Escaped>
     }
 }
 
-/// The character that an escape of this form stands for, by what goes on behind its first two
+/// The character that an escape of this form stands for, by what goes on after its first two
 /// characters.
 fn rest_of_escape(text: &[char], form: Form, from: usize) -> Option<Escaped>
     requires { from ≤ length text.now }
@@ -149,7 +149,7 @@ fn rest_of_escape(text: &[char], form: Form, from: usize) -> Option<Escaped>
     }
 }
 
-/// The escaped character behind the `\` at a place, if one is there.
+/// The escaped character after the `\` at a place, if one is there.
 pub(crate) fn escape(text: &[char], at: usize) -> Option<Spelled>
     requires { at < length text.now }
     ensures { IsSpelling text.now Escape at result }

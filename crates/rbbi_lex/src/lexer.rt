@@ -26,7 +26,7 @@ pub(crate) struct Lexer {
     ghost short: { vec_len characters ≤ most_bytes },
 }
 
-/// The place behind the piece that begins at a place and is skipped, if one does: a character of
+/// The place after the piece that begins at a place and is skipped, if one does: a character of
 /// white space, or a comment outside of sets.
 fn piece_end(text: &[char], state: &State, at: usize) -> Option<usize>
     ensures { IsPieceEnd text.now state.now at result }

@@ -10,7 +10,7 @@ use crate::token::TokenKind;
 use crate::words::word_between;
 use std::alloc::{AllocError, Global};
 
-/// A name behind the `$` at a place, if one begins there.
+/// A name after the `$` at a place, if one begins there.
 pub(crate) fn variable(
     alloc: Global,
     text: &[char],
@@ -29,7 +29,7 @@ pub(crate) fn variable(
     }
 }
 
-/// A control behind the `!!` at a place, if one letter, digit or `_` at least stands there.
+/// A control after the `!!` at a place, if one letter, digit or `_` at least stands there.
 pub(crate) fn control(
     alloc: Global,
     text: &[char],

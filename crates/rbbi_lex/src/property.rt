@@ -12,7 +12,7 @@ use crate::words::word_between;
 use rbbi_text::Word;
 use std::alloc::{AllocError, Global};
 
-/// The value of a property whose name and body end at these places: what is behind the `=`.
+/// The value of a property whose name and body end at these places: what is after the `=`.
 fn value_word(
     alloc: Global,
     text: &[char],

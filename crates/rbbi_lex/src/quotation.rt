@@ -1,7 +1,8 @@
 //! Quoted sequences.
 ghost use Rattle.std.specs.Prelude.{◌<◌, length, IfOk};
 ghost use Rattle.rbbi_lex.specs.declared.case.Case.TheVariants.{Quotation};
-ghost use Rattle.rbbi_lex.specs.inner.Steps.{IsNextQuoted, IsSpelling};
+ghost use Rattle.rbbi_lex.specs.Quotations.{IsQuoted};
+ghost use Rattle.rbbi_lex.specs.inner.Steps.{IsRestBy, IsSpelling};
 
 use crate::character::{character_at, is_line_end, stands_at};
 use crate::escape::Escaped;
@@ -13,7 +14,7 @@ use std::alloc::{AllocError, Global};
 /// The next character within quotes: `''` is one quote, and each other character but a line
 /// terminator stands for itself.
 fn next_quoted(text: &[char], at: usize) -> Option<Escaped>
-    ensures { IsNextQuoted text.now at result }
+    ensures { IsRestBy (IsQuoted text.now at) result }
 {
     let c = character_at(text, at)?;
     if c == '\'' {

@@ -90,9 +90,7 @@ pub(crate) fn spell(
         Case::Quotation => quotation(alloc, text, at),
         Case::BracedProperty => braced_property(alloc, text, at),
         Case::Escape => Ok(escape(text, at)),
-        Case::Brace => Ok(None),
-        Case::BareCharacter => Ok(Some(bare(text, at))),
-        Case::SetCharacter => Ok(Some(bare(text, at))),
-        Case::OtherCharacter => Ok(None),
+        Case::BareCharacter | Case::SetCharacter => Ok(Some(bare(text, at))),
+        Case::Brace | Case::OtherCharacter => Ok(None),
     }
 }

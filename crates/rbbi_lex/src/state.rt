@@ -1,7 +1,7 @@
 //! What the lexer remembers of the tokens that it has read.
 ghost use Rattle.std.specs.Prelude.{◌≡◌, ◌<◌};
 ghost use Rattle.rbbi_text.specs.Bytes.{most_bytes};
-ghost use Rattle.rbbi_lex.specs.Cases.{state_behind};
+ghost use Rattle.rbbi_lex.specs.Cases.{state_after};
 
 use crate::token::TokenKind;
 
@@ -16,7 +16,7 @@ impl State {
     /// Counts in one more token.
     pub fn note(&mut self, kind: &TokenKind)
         requires { self.old.depth < most_bytes }
-        ensures { self.new ≡ state_behind self.old kind.now }
+        ensures { self.new ≡ state_after self.old kind.now }
     {
         match kind {
             TokenKind::SetOpen => self.depth += 1,

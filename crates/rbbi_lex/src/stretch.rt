@@ -9,11 +9,11 @@ use unicode::properties::is_pattern_white_space;
 #[derive(Clone, Copy)]
 pub(crate) enum Stretch {
     WhiteSpace,
-    /// A comment behind its `#`, up to a line terminator.
+    /// A comment after its `#`, up to a line terminator.
     CommentText,
-    /// A name behind its `$`.
+    /// A name after its `$`.
     NameText,
-    /// A control behind its `!!`.
+    /// A control after its `!!`.
     ControlText,
     Digits,
     HexadecimalDigits,
@@ -27,7 +27,7 @@ pub(crate) enum Stretch {
     BracketedName,
 }
 
-/// Whether a stretch goes on with a character that has another, or none, behind it.
+/// Whether a stretch goes on with a character that has another, or none, after it.
 fn goes_on(stretch: Stretch, c: char, next: Option<char>) -> bool
     ensures { result ≡ goes_on stretch c next }
 {

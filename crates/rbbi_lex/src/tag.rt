@@ -12,7 +12,7 @@ use rbbi_text::number_of_characters;
 /// The greatest status number.
 const MOST_TAG: u32 = 2_147_483_647;
 
-/// The status number behind the `{` at a place, if one is there, isn't too great, and is closed.
+/// The status number after the `{` at a place, if one is there, isn't too great, and is closed.
 pub(crate) fn tag(text: &[char], at: usize) -> Option<Spelled>
     requires { at < length text.now }
     ensures { IsSpelling text.now StatusNumber at result }

@@ -16,8 +16,7 @@ use Rattle.rbbi_sets.specs.Rising.{AreRising, IsRange}
 use Rattle.rbbi_sets.proofs.Coverage.{Decides-covers}
 use Rattle.rbbi_props.specs.Rows.{Row, File}
 use Rattle.rbbi_props.specs.LooseForms.{loose, is_well_formed}
-use Rattle.rbbi_props.specs.Lookups.{IsSetOf}
-use Rattle.rbbi_props.specs.Lookups.{single, lookup, of_ranges, ranges_of, ranges_with, is_category_or_script}
+use Rattle.rbbi_props.specs.Lookups.{IsSetOf, single, lookup, of_ranges, ranges_of, ranges_with, is_category_or_script}
 
 abbrev range_of_pair : ℕ × ℕ → Range
 range_of_pair pair = record { low = pair.0; high = pair.1 }

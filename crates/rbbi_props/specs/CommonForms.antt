@@ -8,7 +8,7 @@ abbrev pub mark_of : Bool → ℕ
 mark_of true = 33
 mark_of false = 61
 
--- the form in which a look-up takes a text: `?` where it isn't well formed, and else its loose form behind its mark
+-- the form in which a look-up takes a text: `?` where it isn't well formed, and else its loose form after its mark
 abbrev pub common_form : List ℕ → List ℕ
 common_form text = if is_well_formed text then mark_of (has_prefix text) ∷ loose text else 63 ∷ []
 

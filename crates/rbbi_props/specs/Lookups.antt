@@ -48,6 +48,5 @@ lookup files name (Some value) =
 -- the set is found exactly where there is a test, and its members are the code points that pass
 abbrev pub IsSetOf : Option (List Range) → Option (ℕ → Bool) → Type 0
 IsSetOf None None = Unit {0}
-IsSetOf None (Some test) = ⊥
-IsSetOf (Some set) None = ⊥
 IsSetOf (Some set) (Some test) = AreRising set × ((c : ℕ) → c ≤ 0x10FFFF → Has set c ↔ IsTrue (test c))
+IsSetOf set test = ⊥

@@ -1,6 +1,5 @@
 -- The row that a line of a property file writes. 46 is `.` and 59 is `;`.
-use Rattle.std.specs.Prelude.{ℕ, Bool, not, ◌&&◌, ◌==◌, nat_le, List, [], ◌∷◌, Option, Some, None, option_map, option_and_then, is_none}
-use Rattle.std.specs.Prelude.{if◌then◌else◌}
+use Rattle.std.specs.Prelude.{ℕ, Bool, not, ◌&&◌, ◌==◌, nat_le, List, [], ◌∷◌, Option, Some, None, option_map, option_and_then, is_none, if◌then◌else◌}
 use Rattle.std.specs.List.{slice_split}
 use Rattle.rbbi_model.specs.Ranges.{Range}
 use Rattle.rbbi_text.specs.Numbers.{hexadecimal}
@@ -44,9 +43,8 @@ row_with range value =
 
 -- the row of the fields between `;`: two or more, of which the first is the range and the last the value
 abbrev pub row_of_fields : List (List ℕ) → Option Row
-row_of_fields [] = None
-row_of_fields (only ∷ []) = None
 row_of_fields (first ∷ second ∷ fields) = row_with (range_of (trim first)) (trim (last_part (second ∷ fields)))
+row_of_fields fields = None
 
 -- the row that a line writes, and None where it isn't of the form
 abbrev pub property_row : List ℕ → Option Row

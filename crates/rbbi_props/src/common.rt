@@ -29,9 +29,9 @@ pub fn are_alike(name: &str, value: Option<&str>, other: &str, other_value: Opti
 }
 
 /// Adds the common form of a name or value to a text: `?` where it isn't well formed, and else its
-/// loose form behind a mark, which is `!` where it begins with "is", and else `=`.
+/// loose form after a mark, which is `!` where it begins with "is", and else `=`.
 ///
-/// No loose form of a well-formed text has a mark, so a text of common forms tells them apart.
+/// No loose form of a well-formed text has a mark, so a text of common forms distinguishes them.
 pub fn push_common_form(key: &mut String, text: &str) -> Result<(), AllocError>
     ensures { OnOk result (chars (string_bytes key.new)
         ≡ chars (string_bytes key.old) ++ common_form text.now) }
@@ -106,7 +106,7 @@ pub(crate) fn have_one_loose_form(text: &[u8], other: &[u8]) -> bool
     }
 }
 
-/// The first byte of the loose form, and the text behind it. None where the form is empty.
+/// The first byte of the loose form, and the text after it. None where the form is empty.
 fn next_counted(text: &[u8]) -> Option<(u8, &[u8])>
     ensures { MatchOption result (loose text.now ≡ []) (λ next.
         (loose text.now ≡ next.0 ∷ loose next.1.now) × (length next.1.now < length text.now)) }

@@ -7,7 +7,7 @@ use thiserror::Error;
 /// Why a property file is refused.
 #[derive(Debug, Drop, Error)]
 pub enum PropErr {
-    /// The bytes aren't UTF-8. It carries the first byte past the longest valid front, from 0.
+    /// The bytes aren't UTF-8. It carries the first byte past the longest valid prefix, from 0.
     #[error("not UTF-8 at byte {0}")]
     NotUtf8(u32),
     /// This line, counted from 1, is the first that is neither skipped nor of the form of a row.

@@ -1,4 +1,4 @@
-//! Property files that a caller hands in, and what the name and value of a property stand for.
+//! Property files that a caller passes, and what the name and value of a property stand for.
 #![tactic(auto)]
 
 mod common;

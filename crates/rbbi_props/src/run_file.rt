@@ -15,14 +15,14 @@ use crate::table::PropTable;
 use rbbi_sets::CodeRange;
 use std::alloc::{AllocError, Global};
 
-/// How many values there are. A run is the code point behind it, times this, and its value.
+/// How many values there are. A run is the code point after it, times this, and its value.
 const VALUES: u32 = 2048;
 
 impl PropTable {
     /// Adds a file under a name for a property that is known by runs of code points: for each run
     /// a row under each name of its value.
     ///
-    /// A run is the code point behind it, times 2,048, and the number of its value. The values are
+    /// A run is the code point after it, times 2,048, and the number of its value. The values are
     /// the texts of their names, by number, with spaces between names. If memory runs out, the
     /// table is as before.
     pub fn add_runs(&mut self, name: &str, runs: &[u32], values: &[&str]) -> Result<(), AllocError>

@@ -9,7 +9,7 @@ ghost use Rattle.rbbi_props.specs.inner.RunStarts.{start_of};
 use rbbi_sets::{CodeRange, CodeSet};
 use std::alloc::{AllocError, Global};
 
-/// How many values there are. A run is the code point behind it, times this, and its value.
+/// How many values there are. A run is the code point after it, times this, and its value.
 const VALUES: u32 = 2048;
 
 /// The code points whose value is from `first` to `last`. Of runs that follow one another, all with
@@ -69,7 +69,7 @@ fn push_runs(
     Ok(())
 }
 
-/// The first code point of a run, or past the last run the one behind it.
+/// The first code point of a run, or past the last run the one after it.
 fn start_of_run(runs: &[u32], number: usize) -> u32
     requires { number ≤ length runs.now }
     ensures { result ≡ start_of runs.now number }

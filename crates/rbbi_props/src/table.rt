@@ -20,7 +20,7 @@ use rbbi_sets::{CodeRange, CodeSet};
 use std::alloc::{AllocError, Global};
 use std::marker::Model;
 
-/// The property files that were handed in. Contracts see it as their list.
+/// The property files that were passed. Contracts see it as their list.
 #[derive(Debug, Drop)]
 pub struct PropTable {
     pub(crate) files: Vec<PropFile>,
@@ -54,7 +54,7 @@ impl PropTable {
     /// the last is the value, which has a letter or digit of ASCII. Fields between are ignored, as
     /// the files of the Unicode Character Database have them (UAX #44, section 4.2).
     ///
-    /// Refuses `NotUtf8` with the first byte past the longest valid front, `BadRow` with the first
+    /// Refuses `NotUtf8` with the first byte past the longest valid prefix, `BadRow` with the first
     /// line that is neither skipped nor of this form, and `Memory`. The table is then as before.
     pub fn add(&mut self, name: &str, bytes: &[u8]) -> Result<(), PropErr>
         requires { length bytes.now ≤ most_bytes }

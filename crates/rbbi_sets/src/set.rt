@@ -77,7 +77,7 @@ impl CodeSet {
         CodeSet { ranges }
     }
 
-    /// Adds the code points from `low` to `high` behind the others. A last range that overlaps or
+    /// Adds the code points from `low` to `high` after the others. A last range that overlaps or
     /// touches them takes them in. If it is refused, the set is as it was.
     pub fn push(&mut self, low: u32, high: u32) -> Result<(), AllocError>
         requires ordered { low ≤ high }

@@ -5,12 +5,11 @@ use Rattle.rbbi_lex.specs.declared.token.Token.{Token}
 use Rattle.rbbi_lex.specs.declared.token.TokenKind.{TokenKind}
 use Rattle.rbbi_lex.specs.declared.token.TokenKind.TheVariants.{Semi, Slash, Dot, ParenOpen, ParenClose, SetOpen, Char, Quoted, Name, Prop}
 use Rattle.rbbi_tree.specs.declared.syntax.Quant.{Quant}
-use Rattle.rbbi_tree.specs.declared.syntax.Quant.TheVariants.{Once, Star, Plus, Quest}
+use Rattle.rbbi_tree.specs.declared.syntax.Quant.TheVariants.{Once}
 use Rattle.rbbi_tree.specs.Trees.{set_of, ExprTree, SeqTree, ItemTree, AtomTree, StatementTree, no_alternatives, alternative, no_items, item, placed}
 use Rattle.rbbi_tree.specs.Trees.{character, quoted, any, name, property, set, group, nothing, control, assign, rule}
-use Rattle.rbbi_tree.specs.Grammar.{token, HasFirstPlace, IsCaret, IsQuant, IsTag, IsExpr, AreMoreAlternatives, IsSeq, AreItems, IsItem, IsAtom}
-use Rattle.rbbi_tree.specs.Grammar.{IsOneSeq, IsMatcher}
-use Rattle.rbbi_tree.specs.Grammar.{IsStatement, IsFile}
+use Rattle.rbbi_tree.specs.Grammar.{token, HasFirstPlace, IsCaret, IsQuant, IsTag, IsExpr, AreMoreAlternatives, IsSeq, AreItems, IsItem, IsAtom, IsOneSeq}
+use Rattle.rbbi_tree.specs.Grammar.{IsMatcher, IsStatement, IsFile}
 use Rattle.rbbi_tree.specs.inner.Statements.{LevelTree, GroupTree, HeadTree, assigning, ruling, resting, Progress, empty_level, after, items_back}
 use Rattle.rbbi_tree.specs.inner.Statements.{sequences_back, with_item, with_sequence, whole, begun, atom_read, group_begun, set_begun, at_bar, run}
 use Rattle.rbbi_tree.proofs.Runs.{run-on}
@@ -62,9 +61,7 @@ run_quant : (quant : Quant) (ts : List Token) (place : ℕ) (atom : AtomTree) (d
     (level : LevelTree) → IsQuant ts quant →
     run ts (inside done head groups (with_item (placed place atom Once) level)) ≡ Some (inside done head groups (with_item (placed place atom quant) level))
 run_quant Once ts place atom done head groups level h = rw h refl
-run_quant Star ts place atom done head groups level (at, h) = rw h refl
-run_quant Plus ts place atom done head groups level (at, h) = rw h refl
-run_quant Quest ts place atom done head groups level (at, h) = rw h refl
+run_quant quant ts place atom done head groups level (at, h) = rw h refl
 
 mutual
   run_item : (i : ItemTree) (ts : List Token) (done : List StatementTree) (head : HeadTree) (groups : List GroupTree) (level : LevelTree) →
@@ -196,9 +193,8 @@ begins_one (alternative s (alternative next more)) ts h = absurd h
 
 begins_matcher : (front : ExprTree) (slash : Option ℕ) (rest : Option ExprTree) (ts : List Token) → IsMatcher ts front slash rest → BeginsWell ts
 begins_matcher front None None ts h = begins_expr front ts h
-begins_matcher front None (Some rest) ts h = absurd h
-begins_matcher front (Some slash) None ts h = absurd h
 begins_matcher front (Some slash) (Some rest) ts (a, b, h, first, second) = begins_more ts a (token Slash slash ∷ b) h (begins_one front a first)
+begins_matcher front slash rest ts h = absurd h
 
 -- the first token of a rule begins a statement at its place
 begin : (k : TokenKind) (place : ℕ) (rest : List Token) (done : List StatementTree) → BeginsItem k →
@@ -256,8 +252,6 @@ run_matcher front None None tag a t semi place no_chain_in done e tag_is =
     run-on a (t ++ token Semi semi ∷ []) (inside done (ruling place no_chain_in) [] empty_level) _ ran
     ∙ run_rule_end tag t semi place no_chain_in done sequences i is tag_is
     ∙ ap (λ e. Some (after (done ++ rule place no_chain_in e None None tag ∷ []))) all
-run_matcher front None (Some rest) tag a t semi place no_chain_in done e tag_is = absurd e
-run_matcher front (Some slash) None tag a t semi place no_chain_in done e tag_is = absurd e
 run_matcher front (Some slash) (Some rest) tag a t semi place no_chain_in done (b, c, h, first, second) tag_is =
     let end = t ++ token Semi semi ∷ [] in
     let (i, is, ran, all) = run_one front b done (ruling place no_chain_in) (λ place p. refl) first in
@@ -269,6 +263,7 @@ run_matcher front (Some slash) (Some rest) tag a t semi place no_chain_in done (
     ∙ run_rest_end tag t semi place slash no_chain_in made done j js tag_is
     ∙ ap (λ e. Some (after (done ++ rule place no_chain_in e (Some slash) (Some (whole (record { sequences = []; items = j ∷ js }))) tag ∷ []))) all
     ∙ ap (λ e. Some (after (done ++ rule place no_chain_in front (Some slash) (Some e) tag ∷ []))) all')
+run_matcher front slash rest tag a t semi place no_chain_in done e tag_is = absurd e
 
 run_statement : (s : StatementTree) (ts : List Token) (done : List StatementTree) → IsStatement ts s →
     run ts (after done) ≡ Some (after (done ++ s ∷ []))

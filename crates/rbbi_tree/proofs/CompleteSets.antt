@@ -97,11 +97,7 @@ run_characters (joined at Add (set_range c d)) a rest spot last place negated pa
   refl,
   rw h (run_character spot last c bare at place negated parts (token Hyphen hyphen ∷ token (Char d bare') end ∷ rest) outers p fits),
 )
-run_characters (joined at Add (set_name word)) a rest spot last place negated parts outers p is fits = absurd is
-run_characters (joined at Add (set_property n word value)) a rest spot last place negated parts outers p is fits = absurd is
-run_characters (joined at Add (set_within t)) a rest spot last place negated parts outers p is fits = absurd is
-run_characters (joined at Both i) a rest spot last place negated parts outers p is fits = absurd is
-run_characters (joined at Minus i) a rest spot last place negated parts outers p is fits = absurd is
+run_characters first a rest spot last place negated parts outers p is fits = absurd is
 
 join-fits : (spot : Spot) (last : SetState) → Fits spot last → join_in last ≡ Some Add
 join-fits opening state.Opened fits = refl
@@ -120,12 +116,8 @@ run_join : (join : Join) (sign rest : List Token) (spot : Spot) (last : SetState
 run_join Add sign rest spot last place negated parts outers p h fits = (last, parts, join-fits spot last fits, refl, rw h refl)
 run_join Both sign rest behind state.Operand place negated parts outers p (is, (at, h)) fits = (state.Both, parts, refl, refl, rw h refl)
 run_join Minus sign rest behind state.Operand place negated parts outers p (is, (at, h)) fits = (state.Minus at, parts, refl, refl, rw h refl)
-run_join Both sign rest behind last place negated parts outers p h fits = absurd fits
-run_join Minus sign rest behind last place negated parts outers p h fits = absurd fits
-run_join Both sign rest opening last place negated parts outers p (is, h) fits = absurd is
-run_join Minus sign rest opening last place negated parts outers p (is, h) fits = absurd is
-run_join Both sign rest elsewhere last place negated parts outers p (is, h) fits = absurd is
-run_join Minus sign rest elsewhere last place negated parts outers p (is, h) fits = absurd is
+run_join join sign rest behind last place negated parts outers p h fits = absurd fits
+run_join join sign rest spot last place negated parts outers p (is, h) fits = absurd is
 
 -- what was read last after a set's opening
 abbrev begun_state : Bool → SetState
@@ -174,8 +166,6 @@ mutual
       (outers : List OuterSetTree) (p : Progress) →
       IsOperand at ts i → join_in last ≡ Some join →
       run ts (in_set place negated parts last outers p) ≡ Some (in_set place negated (joined at join i ∷ settled last parts) state.Operand outers p)
-  run_operand (set_character c) ts at join last place negated parts outers p is joins = absurd is
-  run_operand (set_range c d) ts at join last place negated parts outers p is joins = absurd is
   run_operand (set_name word) ts at join last place negated parts outers p is joins = rw (is, joins) refl
   run_operand (set_property n word value) ts at join last place negated parts outers p is joins = rw (is, joins) refl
   run_operand (set_within (set_of on n inner)) ts at join last place negated parts outers p (caret, rest, h, here, caret_is, others) joins =
@@ -183,6 +173,7 @@ mutual
       rw (h, here, joins) (run_caret n caret rest at (outer_set level join ∷ outers) p caret_is
       ∙ run_parts inner rest opening (begun_state n) at n [] (outer_set level join ∷ outers) p others (begun-fits n)
       ∙ ap (λ ps. Some (set_ended at (set_of at n (parts_back ps inner)) (outer_set level join ∷ outers) p)) (begun-settled n))
+  run_operand i ts at join last place negated parts outers p is joins = absurd is
 
 -- a set is read after its bracket
 pub run_set : (negated : Bool) (parts : PartsTree) (caret rest : List Token) (place : ℕ) (p : Progress) → IsCaret caret negated → AreParts opening rest parts →

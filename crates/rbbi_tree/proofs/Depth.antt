@@ -5,7 +5,7 @@ use Rattle.std.proofs.lemmas.Bool.{cases_order}
 use Rattle.std.proofs.lemmas.Option.{get_or_from_slice_get, slice_get_within}
 use Rattle.rbbi_lex.specs.declared.token.Token.{Token}
 use Rattle.rbbi_lex.specs.declared.token.TokenKind.{TokenKind}
-use Rattle.rbbi_lex.specs.declared.token.TokenKind.TheVariants.{ParenOpen, ParenClose, SetOpen, SetClose}
+use Rattle.rbbi_lex.specs.declared.token.TokenKind.TheVariants.{ParenOpen}
 use Rattle.rbbi_tree.specs.Brackets.{open_after, open_from, IsShallowBefore, IsDeepAt, IsShallow}
 
 open_from-append : (a b : List Token) (d : ℕ) → open_from d (a ++ b) ≡ open_from (open_from d a) b
@@ -21,9 +21,6 @@ counted_more ts i d t at counted =
 -- a token opens at most one bracket
 pub opens_one : (kind : TokenKind) (d : ℕ) → open_after kind d ≤ d + 1
 opens_one ParenOpen d = omega arith
-opens_one SetOpen d = omega arith
-opens_one ParenClose d = omega arith
-opens_one SetClose d = omega arith
 opens_one kind d = omega arith
 
 -- one token more that is shallow

@@ -8,8 +8,7 @@ use Rattle.rbbi_tree.specs.declared.set_level.SetState.TheVariants as state
 use Rattle.rbbi_tree.specs.Trees.{SetSyntax, PartTree, SeqTree, ItemTree, StatementTree, placed, character, set, group}
 use Rattle.rbbi_tree.specs.Grammar.{token}
 use Rattle.rbbi_tree.specs.inner.Sets.{SetLevelTree, OuterSetTree, SetsTree, set_from, set_resumed}
-use Rattle.rbbi_tree.specs.inner.Statements.{LevelTree, GroupTree, HeadTree, between, assigning, ruling, resting, ended, Progress, whole, set_ended}
-use Rattle.rbbi_tree.specs.inner.Statements.{run}
+use Rattle.rbbi_tree.specs.inner.Statements.{LevelTree, GroupTree, HeadTree, between, ended, Progress, whole, set_ended, run}
 use Rattle.rbbi_tree.proofs.Sound.{Reading}
 
 -- tokens that lead from here to between two statements
@@ -32,23 +31,17 @@ finish_groups : (groups : List GroupTree) (done : List StatementTree) (head : He
     Finishes (close_groups groups) (made done head groups (with sequences (i ∷ is)) None)
 finish_groups [] done between sequences i is reading = absurd reading
 finish_groups [] done (ended s) sequences i is reading = absurd reading
-finish_groups [] done (assigning word at) sequences i is reading = (_, refl, refl)
-finish_groups [] done (ruling at no_chain_in) sequences i is reading = (_, refl, refl)
-finish_groups [] done (resting at no_chain_in front slash) sequences i is reading = (_, refl, refl)
 finish_groups (g ∷ outer) done head sequences i is reading =
     finish_groups outer done head g.outer.sequences (placed g.place (group (whole (with sequences (i ∷ is)))) Once) g.outer.items reading
+finish_groups [] done head sequences i is reading = (_, refl, refl)
 
 -- before an item one is added
 finish_level : (head : HeadTree) (done : List StatementTree) (groups : List GroupTree) (level : LevelTree) → Reading head →
     Finishes (token (Char 97 true) 0 ∷ close_groups groups) (made done head groups level None)
 finish_level between done groups level reading = absurd reading
 finish_level (ended s) done groups level reading = absurd reading
-finish_level (assigning word at) done groups level reading =
-    finish_groups groups done (assigning word at) level.sequences (placed 0 (character 97 true) Once) level.items tt
-finish_level (ruling at no_chain_in) done groups level reading =
-    finish_groups groups done (ruling at no_chain_in) level.sequences (placed 0 (character 97 true) Once) level.items tt
-finish_level (resting at no_chain_in front slash) done groups level reading =
-    finish_groups groups done (resting at no_chain_in front slash) level.sequences (placed 0 (character 97 true) Once) level.items tt
+finish_level head done groups level reading =
+    finish_groups groups done head level.sequences (placed 0 (character 97 true) Once) level.items tt
 
 abbrev close_sets : List OuterSetTree → List GroupTree → List Token
 close_sets [] groups = close_groups groups
@@ -72,21 +65,7 @@ finish_set : (last : SetState) (place : ℕ) (negated : Bool) (parts : List Part
     (ts : List Token) × Finishes ts (made done head groups level (in_set (record { place = place; negated = negated; parts = parts; state = last }) outers))
 finish_set state.Both place negated parts outers done head groups level reading =
     (token SetOpen 0 ∷ token SetClose 0 ∷ token SetClose 0 ∷ close_sets outers groups, finish_outers outers place _ done head groups level _ reading)
-finish_set state.Opened place negated parts outers done head groups level reading =
-    (token SetClose 0 ∷ close_sets outers groups, finish_outers outers place _ done head groups level _ reading)
-finish_set state.Begun place negated parts outers done head groups level reading =
-    (token SetClose 0 ∷ close_sets outers groups, finish_outers outers place _ done head groups level _ reading)
-finish_set state.Apart place negated parts outers done head groups level reading =
-    (token SetClose 0 ∷ close_sets outers groups, finish_outers outers place _ done head groups level _ reading)
-finish_set (state.Character c at) place negated parts outers done head groups level reading =
-    (token SetClose 0 ∷ close_sets outers groups, finish_outers outers place _ done head groups level _ reading)
-finish_set (state.Ranging c at hyphen) place negated parts outers done head groups level reading =
-    (token SetClose 0 ∷ close_sets outers groups, finish_outers outers place _ done head groups level _ reading)
-finish_set state.Operand place negated parts outers done head groups level reading =
-    (token SetClose 0 ∷ close_sets outers groups, finish_outers outers place _ done head groups level _ reading)
-finish_set (state.Minus hyphen) place negated parts outers done head groups level reading =
-    (token SetClose 0 ∷ close_sets outers groups, finish_outers outers place _ done head groups level _ reading)
-finish_set (state.Last hyphen) place negated parts outers done head groups level reading =
+finish_set last place negated parts outers done head groups level reading =
     (token SetClose 0 ∷ close_sets outers groups, finish_outers outers place _ done head groups level _ reading)
 
 -- every file so far can be finished, where sets are open only in an expression
@@ -94,11 +73,7 @@ finish_head : (head : HeadTree) (done : List StatementTree) (groups : List Group
     (ts : List Token) × Finishes ts (made done head groups level None)
 finish_head between done groups level = ([], (_, refl, refl))
 finish_head (ended s) done groups level = (token Semi 0 ∷ [], (_, refl, refl))
-finish_head (assigning word at) done groups level = (token (Char 97 true) 0 ∷ close_groups groups, finish_level (assigning word at) done groups level tt)
-finish_head (ruling at no_chain_in) done groups level =
-    (token (Char 97 true) 0 ∷ close_groups groups, finish_level (ruling at no_chain_in) done groups level tt)
-finish_head (resting at no_chain_in front slash) done groups level =
-    (token (Char 97 true) 0 ∷ close_groups groups, finish_level (resting at no_chain_in front slash) done groups level tt)
+finish_head head done groups level = (token (Char 97 true) 0 ∷ close_groups groups, finish_level head done groups level tt)
 
 pub finish : (sets : Option SetsTree) (head : HeadTree) (done : List StatementTree) (groups : List GroupTree) (level : LevelTree) →
     ((open_ones : SetsTree) → sets ≡ Some open_ones → Reading head) → (ts : List Token) × Finishes ts (made done head groups level sets)

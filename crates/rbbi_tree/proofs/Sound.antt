@@ -5,21 +5,19 @@ use Rattle.std.proofs.lemmas.List.{append_assoc, append-nil}
 use Rattle.rbbi_lex.specs.declared.token.Token.{Token}
 use Rattle.rbbi_lex.specs.declared.token.TokenKind.{TokenKind}
 use Rattle.rbbi_lex.specs.declared.token.TokenKind.TheVariants as kind
-use Rattle.rbbi_lex.specs.declared.token.TokenKind.TheVariants.{Semi, Equals, Bar, Slash, Caret, Dot, ParenOpen, ParenClose, SetOpen, SetClose, Hyphen, Amp}
+use Rattle.rbbi_lex.specs.declared.token.TokenKind.TheVariants.{Semi, Equals, Bar, Slash, Caret, Dot, ParenOpen, ParenClose, SetOpen, SetClose}
 use Rattle.rbbi_lex.specs.declared.token.TokenKind.TheVariants.{Char, Quoted, Name, Control, Tag, Prop}
 use Rattle.rbbi_tree.specs.declared.syntax.Join.{Join}
 use Rattle.rbbi_tree.specs.declared.syntax.Quant.{Quant}
 use Rattle.rbbi_tree.specs.declared.syntax.Quant.TheVariants.{Once, Star, Plus, Quest}
 use Rattle.rbbi_tree.specs.Trees.{SetSyntax, PartTree, ExprTree, SeqTree, ItemTree, AtomTree, StatementTree, no_alternatives, alternative, no_items}
 use Rattle.rbbi_tree.specs.Trees.{item, placed, character, quoted, any, name, property, set, group, nothing, control}
-use Rattle.rbbi_tree.specs.Grammar.{token, HasFirstPlace, IsCaret, IsQuant, IsTag, IsSet, IsExpr, AreMoreAlternatives, IsSeq, AreItems, IsItem}
-use Rattle.rbbi_tree.specs.Grammar.{IsAtom, IsOneSeq}
-use Rattle.rbbi_tree.specs.Grammar.{IsStatement, IsFile}
+use Rattle.rbbi_tree.specs.Grammar.{token, HasFirstPlace, IsCaret, IsQuant, IsTag, IsSet, IsExpr, AreMoreAlternatives, IsSeq, AreItems, IsItem, IsAtom}
+use Rattle.rbbi_tree.specs.Grammar.{IsOneSeq, IsStatement, IsFile}
 use Rattle.rbbi_tree.specs.inner.Sets.{SetLevelTree, OuterSetTree, SetsTree, join_in, ended_parts, new_set_level, outer_set, set_from, set_resumed}
 use Rattle.rbbi_tree.specs.inner.Sets.{at_set_token}
 use Rattle.rbbi_tree.specs.inner.Statements.{LevelTree, GroupTree, HeadTree, between, assigning, ruling, resting, ended, Progress, empty_level, after}
-use Rattle.rbbi_tree.specs.inner.Statements.{items_back, sequences_back, with_item, with_sequence, whole, begun, atom_read, group_begun, quantified}
-use Rattle.rbbi_tree.specs.inner.Statements.{at_atom}
+use Rattle.rbbi_tree.specs.inner.Statements.{items_back, sequences_back, with_item, with_sequence, whole, begun, atom_read, group_begun, quantified, at_atom}
 use Rattle.rbbi_tree.specs.inner.Statements.{at_open, at_set_open, at_quant, at_bar, at_close, at_slash, at_caret, at_control, sole_name, name_assigned}
 use Rattle.rbbi_tree.specs.inner.Statements.{at_equals, statement_of, statement_at, statement_read, statement_ended, at_semi, advance_outside, set_kept}
 use Rattle.rbbi_tree.specs.inner.Statements.{at_inner_open, set_ended, at_inner_close, advance_inside, advance_by, advance, run}
@@ -53,34 +51,24 @@ bottom (g ∷ outer) level = bottom outer g.outer
 -- an expression is being read
 abbrev pub Reading : HeadTree → Type 0
 Reading between = ⊥
-Reading (assigning word at) = Unit {0}
-Reading (ruling at no_chain_in) = Unit {0}
-Reading (resting at no_chain_in front slash) = Unit {0}
 Reading (ended s) = ⊥
+Reading head = Unit {0}
 
 -- behind a slash the outermost expression has no bar
 abbrev IsSingle : HeadTree → List GroupTree → LevelTree → Type 0
-IsSingle between groups level = Unit {0}
-IsSingle (assigning word at) groups level = Unit {0}
-IsSingle (ruling at no_chain_in) groups level = Unit {0}
 IsSingle (resting at no_chain_in front slash) groups level = bottom groups level ≡ []
-IsSingle (ended s) groups level = Unit {0}
+IsSingle head groups level = Unit {0}
 
 single-same : (head : HeadTree) (groups groups' : List GroupTree) (level level' : LevelTree) → bottom groups' level' ≡ bottom groups level →
     IsSingle head groups level → IsSingle head groups' level'
-single-same between groups groups' level level' same h = tt
-single-same (assigning word at) groups groups' level level' same h = tt
-single-same (ruling at no_chain_in) groups groups' level level' same h = tt
 single-same (resting at no_chain_in front slash) groups groups' level level' same h = same ∙ h
-single-same (ended s) groups groups' level level' same h = tt
+single-same head groups groups' level level' same h = tt
 
 -- a rule stands at the place of its first token
 abbrev StartsAt : List Token → HeadTree → Type 0
-StartsAt ts between = Unit {0}
-StartsAt ts (assigning word at) = Unit {0}
 StartsAt ts (ruling at no_chain_in) = HasFirstPlace at ts
 StartsAt ts (resting at no_chain_in front slash) = HasFirstPlace at ts
-StartsAt ts (ended s) = Unit {0}
+StartsAt ts head = Unit {0}
 
 -- the tokens of the statement so far, outside of the sets that are open
 abbrev IsBegun : List Token → HeadTree → List GroupTree → LevelTree → Type 0
@@ -222,11 +210,9 @@ bottom-item [] i level = refl
 bottom-item (g ∷ outer) i level = refl
 
 starts-push : (head : HeadTree) (ts us : List Token) → StartsAt ts head → StartsAt (ts ++ us) head
-starts-push between ts us h = tt
-starts-push (assigning word at) ts us h = tt
 starts-push (ruling at no_chain_in) ts us h = begins-push at ts us h
 starts-push (resting at no_chain_in front slash) ts us h = begins-push at ts us h
-starts-push (ended s) ts us h = tt
+starts-push head ts us h = tt
 
 bottom-same : (groups : List GroupTree) (sequences : List SeqTree) (items items' : List ItemTree) →
     bottom groups (with sequences items) ≡ bottom groups (with sequences items')
@@ -261,35 +247,27 @@ reading-items between ts groups sequences i is (none, no_group, with_head_alone)
     (λ level. level.items) with_head_alone in cc)
 reading-items (ended s) ts groups sequences i is (whole, no_group, with_head_alone) = absurd (let e : i ∷ is ≡ [] = ap
     (λ level. level.items) with_head_alone in cc)
-reading-items (assigning word at) ts groups sequences i is h = tt
-reading-items (ruling at no_chain_in) ts groups sequences i is h = tt
-reading-items (resting at no_chain_in front slash) ts groups sequences i is h = tt
+reading-items head ts groups sequences i is h = tt
 
 -- the head once an item begins
 abbrev head_begun : ℕ → HeadTree → HeadTree
 head_begun place between = ruling place false
-head_begun place (assigning word at) = assigning word at
-head_begun place (ruling at no_chain_in) = ruling at no_chain_in
-head_begun place (resting at no_chain_in front slash) = resting at no_chain_in front slash
-head_begun place (ended s) = ended s
+head_begun place head = head
 
 -- the tokens so far are those of the head that an item begins
 begun-begun : (head : HeadTree) (place : ℕ) (ts : List Token) (groups : List GroupTree) (level : LevelTree) → Reading (head_begun place head) →
     IsBegun ts head groups level → IsBegun ts (head_begun place head) groups level
 begun-begun between place ts groups level reading (none, no_group, with_head_alone) = rw (none, no_group, with_head_alone) ([], [], refl, refl, level-empty)
-begun-begun (assigning word at) place ts groups level reading h = h
-begun-begun (ruling at no_chain_in) place ts groups level reading h = h
-begun-begun (resting at no_chain_in front slash) place ts groups level reading h = h
 begun-begun (ended s) place ts groups level reading h = absurd reading
+begun-begun head place ts groups level reading h = h
 
 starts-begun : (head : HeadTree) (place : ℕ) (ts us : List Token) (groups : List GroupTree) (level : LevelTree) → HasFirstPlace place us →
     IsBegun ts head groups level → StartsAt ts head →
     StartsAt (ts ++ us) (head_begun place head)
 starts-begun between place ts us groups level begins (none, no_group, with_head_alone) h = rw none begins
-starts-begun (assigning word at) place ts us groups level begins is h = tt
 starts-begun (ruling at no_chain_in) place ts us groups level begins is h = begins-push at ts us h
 starts-begun (resting at no_chain_in front slash) place ts us groups level begins is h = begins-push at ts us h
-starts-begun (ended s) place ts us groups level begins is h = tt
+starts-begun head place ts us groups level begins is h = tt
 
 abbrev made : List StatementTree → HeadTree → List GroupTree → LevelTree → Option SetsTree → Progress
 made done head groups level sets = record { statements = done; head = head; groups = groups; level = level; sets = sets }
@@ -301,11 +279,8 @@ BegunIs head place done groups level =
     ⊎ (begun place head (made done head groups level None) ≡ None)
 
 begun-is : (head : HeadTree) (place : ℕ) (done : List StatementTree) (groups : List GroupTree) (level : LevelTree) → BegunIs head place done groups level
-begun-is between place done groups level = inl (refl, tt)
-begun-is (assigning word at) place done groups level = inl (refl, tt)
-begun-is (ruling at no_chain_in) place done groups level = inl (refl, tt)
-begun-is (resting at no_chain_in front slash) place done groups level = inl (refl, tt)
 begun-is (ended s) place done groups level = inr refl
+begun-is head place done groups level = inl (refl, tt)
 
 -- outside of sets the tokens are the statements' and the begun statement's
 abbrev Outside : List Token → List StatementTree → HeadTree → List GroupTree → LevelTree → Type 0
@@ -402,10 +377,6 @@ step_quant : (kind : TokenKind) (place : ℕ) (quant : Quant) (ts : List Token) 
     IsQuant (token kind place ∷ []) quant →
     IsRead ts (made done head groups (with sequences items) None) →
     IsStillRead (ts ++ token kind place ∷ []) (at_quant (quantified quant items) (made done head groups (with sequences items) None))
-step_quant kind place quant ts done head groups sequences [] q read = tt
-step_quant kind place quant ts done head groups sequences (placed at atom Star ∷ is) q read = tt
-step_quant kind place quant ts done head groups sequences (placed at atom Plus ∷ is) q read = tt
-step_quant kind place quant ts done head groups sequences (placed at atom Quest ∷ is) q read = tt
 step_quant kind place quant ts done head groups sequences (placed at atom Once ∷ is) q read =
     let us = token kind place ∷ [] in
     let level = with sequences (placed at atom Once ∷ is) in
@@ -413,6 +384,7 @@ step_quant kind place quant ts done head groups sequences (placed at atom Once �
     step_after us ts done head groups groups level' sequences (placed at atom Once) is
     (λ b l. levels-add groups b us level level' (λ ts l. level-quant ts us at atom quant sequences is q l) l)
     (single-same head groups groups level level' (bottom-same groups sequences (placed at atom quant ∷ is) (placed at atom Once ∷ is))) read
+step_quant kind place quant ts done head groups sequences items q read = tt
 
 step_bar : (place : ℕ) (ts : List Token) (done : List StatementTree) (head : HeadTree) (groups : List GroupTree) (sequences : List SeqTree)
     (items : List ItemTree) →
@@ -425,18 +397,9 @@ step_bar place ts done head (g ∷ groups) sequences (i ∷ is) read =
     (λ b l. levels-add (g ∷ groups) b (token Bar place ∷ []) level (with_sequence level) (λ ts l. level-bar place ts sequences i is l) l)
     (single-same head (g ∷ groups) (g ∷ groups) level (with_sequence level) refl) read
 step_bar place ts done (resting at no_chain_in front slash) [] sequences (i ∷ is) read = tt
-step_bar place ts done (assigning word at) [] sequences (i ∷ is) read =
-    step_after (token Bar place ∷ []) ts done (assigning word at) [] [] (with_sequence (with sequences (i ∷ is))) sequences i is
+step_bar place ts done head [] sequences (i ∷ is) read =
+    step_after (token Bar place ∷ []) ts done head [] [] (with_sequence (with sequences (i ∷ is))) sequences i is
     (λ b l. level-bar place b sequences i is l) (λ s. tt) read
-step_bar place ts done (ruling at no_chain_in) [] sequences (i ∷ is) read =
-    step_after (token Bar place ∷ []) ts done (ruling at no_chain_in) [] [] (with_sequence (with sequences (i ∷ is))) sequences i is
-    (λ b l. level-bar place b sequences i is l) (λ s. tt) read
-step_bar place ts done between [] sequences (i ∷ is) read =
-    let (a, b, h, file, begun_is, starts) = outside ts done between [] (with sequences (i ∷ is)) read in
-    absurd (reading-items between b [] sequences i is begun_is)
-step_bar place ts done (ended s) [] sequences (i ∷ is) read =
-    let (a, b, h, file, begun_is, starts) = outside ts done (ended s) [] (with sequences (i ∷ is)) read in
-    absurd (reading-items (ended s) b [] sequences i is begun_is)
 
 step_close : (place : ℕ) (ts : List Token) (done : List StatementTree) (head : HeadTree) (groups : List GroupTree) (sequences : List SeqTree)
     (items : List ItemTree) →
@@ -458,16 +421,13 @@ step_slash : (place : ℕ) (ts : List Token) (done : List StatementTree) (head :
 step_slash place ts done head groups sequences [] read = tt
 step_slash place ts done head groups (s ∷ sequences) (i ∷ is) read = tt
 step_slash place ts done head (g ∷ groups) [] (i ∷ is) read = tt
-step_slash place ts done between [] [] (i ∷ is) read = tt
-step_slash place ts done (assigning word at) [] [] (i ∷ is) read = tt
-step_slash place ts done (resting at no_chain_in front slash) [] [] (i ∷ is) read = tt
-step_slash place ts done (ended s) [] [] (i ∷ is) read = tt
 step_slash place ts done (ruling at no_chain_in) [] [] (i ∷ is) read =
     let us = token Slash place ∷ [] in
     let (a, b, h, file, (caret, c, h', caret_is, levels), starts) = outside ts done (ruling at no_chain_in) [] (with [] (i ∷ is)) read in
     remade ts us a b done (resting at no_chain_in (whole (with [] (i ∷ is))) place) [] empty_level h file
     (caret, c, [], ap (λ ts. ts ++ us) h' ∙ append_assoc caret c us, caret_is, level-one c [] i is refl levels, refl, level-empty)
     (begins-push at b us starts)
+step_slash place ts done head [] [] (i ∷ is) read = tt
 
 step_caret : (place : ℕ) (ts : List Token) (done : List StatementTree) (head : HeadTree) (groups : List GroupTree) (level : LevelTree) →
     IsRead ts (made done head groups level None) → IsStillRead (ts ++ token Caret place ∷ []) (at_caret place head (made done head groups level None))
@@ -476,10 +436,7 @@ step_caret place ts done between groups level read =
     let (a, b, h, file, (none, no_group, with_head_alone), starts) = outside ts done between groups level read in
     let levels : AreLevels [] groups level = rw (no_group, with_head_alone) level-empty in
     remade ts us a b done (ruling place true) groups level h file (us, [], rw none refl, (place, refl), levels) (rw none refl)
-step_caret place ts done (assigning word at) groups level read = tt
-step_caret place ts done (ruling at no_chain_in) groups level read = tt
-step_caret place ts done (resting at no_chain_in front slash) groups level read = tt
-step_caret place ts done (ended s) groups level read = tt
+step_caret place ts done head groups level read = tt
 
 step_control : (word : List ℕ) (place : ℕ) (ts : List Token) (done : List StatementTree) (head : HeadTree) (groups : List GroupTree) (level : LevelTree) →
     IsRead ts (made done head groups level None) →
@@ -488,10 +445,7 @@ step_control word place ts done between groups level read =
     let us = token (Control word) place ∷ [] in
     let (a, b, h, file, (none, no_group, with_head_alone), starts) = outside ts done between groups level read in
     remade ts us a b done (ended (control word place)) groups level h file (λ semi. (semi, rw none refl), no_group, with_head_alone) tt
-step_control word place ts done (assigning word' at) groups level read = tt
-step_control word place ts done (ruling at no_chain_in) groups level read = tt
-step_control word place ts done (resting at no_chain_in front slash) groups level read = tt
-step_control word place ts done (ended s) groups level read = tt
+step_control word place ts done head groups level read = tt
 
 step_name : (place at : ℕ) (ts : List Token) (done : List StatementTree) (sequences : List SeqTree) (items : List ItemTree) →
     IsRead ts (made done (ruling at false) [] (with sequences items) None) →
@@ -520,9 +474,6 @@ Ends ts (Some s) = IsStatement ts s
 ends : (head : HeadTree) (tag : Option ℕ) (b t : List Token) (semi : ℕ) (sequences : List SeqTree) (i : ItemTree) (is : List ItemTree) → IsTag t tag →
     IsBegun b head [] (with sequences (i ∷ is)) → StartsAt b head →
     Ends (b ++ (t ++ token Semi semi ∷ [])) (statement_of head (whole (with sequences (i ∷ is))) tag)
-ends between tag b t semi sequences i is tag_is h starts = tt
-ends (ended s) tag b t semi sequences i is tag_is h starts = tt
-ends (assigning word at) (Some status) b t semi sequences i is tag_is h starts = tt
 ends (assigning word at) None b t semi sequences i is no_tag (equals, c, h, levels) starts =
     (equals, semi, c, rw (h, no_tag) refl, level-whole c sequences i is levels)
 ends (ruling at no_chain_in) tag b t semi sequences i is tag_is (caret, c, h, caret_is, levels) starts =
@@ -540,6 +491,7 @@ ends (resting at no_chain_in front slash) tag b t semi sequences i is tag_is (ca
       (a, c, refl, one, level-one c sequences i is none levels),
       tag_is,
     )
+ends head tag b t semi sequences i is tag_is h starts = tt
 
 step_tag : (status place : ℕ) (ts : List Token) (done : List StatementTree) (head : HeadTree) (groups : List GroupTree) (sequences : List SeqTree)
     (items : List ItemTree) →
@@ -610,10 +562,7 @@ step_semi semi ts done between groups sequences items read =
 step_semi semi ts done (ended s) groups sequences items read =
     let (a, b, h, file, (is, no_group, with_head_alone), starts) = outside ts done (ended s) groups (with sequences items) read in
     added ts (token Semi semi ∷ []) a b done s groups (with sequences items) h file (is semi) no_group with_head_alone
-step_semi semi ts done (assigning word at) groups sequences items read = step_end semi ts done (assigning word at) groups sequences items read
-step_semi semi ts done (ruling at no_chain_in) groups sequences items read = step_end semi ts done (ruling at no_chain_in) groups sequences items read
-step_semi semi ts done (resting at no_chain_in front slash) groups sequences items read =
-    step_end semi ts done (resting at no_chain_in front slash) groups sequences items read
+step_semi semi ts done head groups sequences items read = step_end semi ts done head groups sequences items read
 
 -- each token outside of sets
 step_outside : (kind : TokenKind) (place : ℕ) (ts : List Token) (done : List StatementTree) (head : HeadTree) (groups : List GroupTree)
@@ -633,9 +582,6 @@ step_outside Dot place ts done head groups sequences items read = step_atom Dot 
 step_outside ParenOpen place ts done head groups sequences items read = step_open place ts done head groups (with sequences items) read
 step_outside ParenClose place ts done head groups sequences items read = step_close place ts done head groups sequences items read
 step_outside SetOpen place ts done head groups sequences items read = step_set_open place ts done head groups (with sequences items) read
-step_outside SetClose place ts done head groups sequences items read = tt
-step_outside Hyphen place ts done head groups sequences items read = tt
-step_outside Amp place ts done head groups sequences items read = tt
 step_outside (Char c bare) place ts done head groups sequences items read =
     step_atom (Char c bare) place (character c bare) ts done head groups (with sequences items) refl read
 step_outside (Quoted word) place ts done head groups sequences items read =
@@ -646,6 +592,7 @@ step_outside (Control word) place ts done head groups sequences items read = ste
 step_outside (Tag status) place ts done head groups sequences items read = step_tag status place ts done head groups sequences items read
 step_outside (Prop negated word value) place ts done head groups sequences items read =
     step_atom (Prop negated word value) place (property negated word value) ts done head groups (with sequences items) refl read
+step_outside kind place ts done head groups sequences items read = tt
 
 -- within sets
 

@@ -11,8 +11,7 @@ use Rattle.rbbi_tree.specs.declared.set_level.SetState.TheVariants as state
 use Rattle.rbbi_tree.specs.Trees.{SetSyntax, PartsTree, PartTree, SetItemTree, set_of, no_parts, part, joined, set_range, set_name, set_property, set_within}
 use Rattle.rbbi_tree.specs.Grammar.{token, Spot, opening, behind, elsewhere, IsJoin, hyphen_at, AreParts, IsSet, IsOperand}
 use Rattle.rbbi_tree.specs.inner.Sets.{SetLevelTree, OuterSetTree, settled, join_in, ended_parts, character_at, parts_back, new_set_level, outer_set}
-use Rattle.rbbi_tree.specs.inner.Sets.{set_resumed}
-use Rattle.rbbi_tree.specs.inner.Sets.{at_set_caret, at_set_hyphen, at_set_amp, at_set_character, at_set_operand, at_set_token}
+use Rattle.rbbi_tree.specs.inner.Sets.{set_resumed, at_set_caret, at_set_hyphen, at_set_amp, at_set_character, at_set_operand, at_set_token}
 
 -- the tokens are the rest of a set after this was read last, and add these parts; a character that is no part yet is among them
 abbrev Follows : SetState → List Token → PartsTree → Type 0
@@ -120,10 +119,6 @@ ends_set last close place negated parts all ts leads ends =
     one all h = let e : parts ≡ all = cc in ap (λ ps. parts_back ps no_parts) e
 
     go : (last : SetState) → ended_parts last parts ≡ Some all → Before last (token SetClose close ∷ []) parts (parts_back all no_parts)
-    go state.Opened h = (no_parts, (close, refl), one all h)
-    go state.Begun h = (no_parts, (close, refl), one all h)
-    go state.Apart h = (no_parts, (close, refl), one all h)
-    go state.Operand h = (no_parts, (close, refl), one all h)
     go (state.Character c at) h = (
       part (character_at c at) no_parts,
       λ bare. lone c bare at (token SetClose close ∷ []) no_parts (close, refl),
@@ -145,6 +140,7 @@ ends_set last close place negated parts all ts leads ends =
       let e : hyphen_at hyphen ∷ parts ≡ all = cc in ap (λ ps. parts_back ps no_parts) e,
     )
     go state.Both h = absurd (cc)
+    go last h = (no_parts, (close, refl), one all h)
 
 -- a set begins
 pub opens_set : (place : ℕ) → IsSetRead (token SetOpen place ∷ []) (new_set_level place)
@@ -182,23 +178,6 @@ IsStillSet ts (Some s) = IsSetRead ts s
 reads_character : (last : SetState) (c : ℕ) (bare : Bool) (at place : ℕ) (negated : Bool) (parts : List PartTree) (ts : List Token) →
     IsSetRead ts (made place negated parts last) →
     IsStillSet (ts ++ token (Char c bare) at ∷ []) (at_set_character c at last (made place negated parts last))
-reads_character state.Opened c bare at place negated parts ts (with_head_alone, leads) = (
-  tt,
-  leads_on ts (token (Char c bare) at ∷ []) place negated parts parts state.Opened (state.Character c at) leads
-      (λ vs more h. (more, weaken opening more (token (Char c bare) at ∷ vs) (h bare), refl)),
-)
-reads_character state.Begun c bare at place negated parts ts (with_head_alone, leads) = (
-  tt,
-  leads_on ts (token (Char c bare) at ∷ []) place negated parts parts state.Begun (state.Character c at) leads
-      (λ vs more h. (more, weaken opening more (token (Char c bare) at ∷ vs) (h bare), refl)),
-)
-reads_character state.Apart c bare at place negated parts ts (with_head_alone, leads) =
-    (tt, leads_on ts (token (Char c bare) at ∷ []) place negated parts parts state.Apart (state.Character c at) leads (λ vs more h. (more, h bare, refl)))
-reads_character state.Operand c bare at place negated parts ts (with_head_alone, leads) = (
-  tt,
-  leads_on ts (token (Char c bare) at ∷ []) place negated parts parts state.Operand (state.Character c at) leads
-      (λ vs more h. (more, weaken behind more (token (Char c bare) at ∷ vs) (h bare), refl)),
-)
 reads_character (state.Character d on) c bare at place negated parts ts (with_head_alone, leads) = (
   tt,
   leads_on ts (token (Char c bare) at ∷ []) place negated parts (character_at d on ∷ parts) (state.Character d on) (state.Character c at) leads
@@ -216,6 +195,11 @@ reads_character (state.Ranging d on hyphen) c bare at place negated parts ts (wi
 reads_character state.Both c bare at place negated parts ts read = tt
 reads_character (state.Minus hyphen) c bare at place negated parts ts read = tt
 reads_character (state.Last hyphen) c bare at place negated parts ts read = tt
+reads_character last c bare at place negated parts ts (with_head_alone, leads) = (
+  tt,
+  leads_on ts (token (Char c bare) at ∷ []) place negated parts parts last (state.Character c at) leads
+      (λ vs more h. (more, weaken _ more (token (Char c bare) at ∷ vs) (h bare), refl)),
+)
 
 -- a hyphen that stands for itself right after the opening
 leading : (hyphen : ℕ) (us : List Token) (more : PartsTree) → AreParts elsewhere us more →
@@ -241,38 +225,21 @@ reads_hyphen (state.Character d on) at place negated parts ts (with_head_alone, 
     (tt, leads_on ts (token Hyphen at ∷ []) place negated parts parts (state.Character d on) (state.Ranging d on at) leads (λ vs more h. (more, h, refl)))
 reads_hyphen state.Operand at place negated parts ts (with_head_alone, leads) =
     (tt, leads_on ts (token Hyphen at ∷ []) place negated parts parts state.Operand (state.Minus at) leads (λ vs more h. (more, h, refl)))
-reads_hyphen (state.Ranging d on hyphen) at place negated parts ts read = tt
-reads_hyphen state.Both at place negated parts ts read = tt
-reads_hyphen (state.Minus hyphen) at place negated parts ts read = tt
-reads_hyphen (state.Last hyphen) at place negated parts ts read = tt
+reads_hyphen last at place negated parts ts read = tt
 
 -- an ampersand is read
 reads_amp : (last : SetState) (at place : ℕ) (negated : Bool) (parts : List PartTree) (ts : List Token) → IsSetRead ts (made place negated parts last) →
     IsStillSet (ts ++ token Amp at ∷ []) (at_set_amp last (made place negated parts last))
 reads_amp state.Operand at place negated parts ts (with_head_alone, leads) =
     (tt, leads_on ts (token Amp at ∷ []) place negated parts parts state.Operand state.Both leads (λ vs more h. (more, h at, refl)))
-reads_amp state.Opened at place negated parts ts read = tt
-reads_amp state.Begun at place negated parts ts read = tt
-reads_amp state.Apart at place negated parts ts read = tt
-reads_amp (state.Character d on) at place negated parts ts read = tt
-reads_amp (state.Ranging d on hyphen) at place negated parts ts read = tt
-reads_amp state.Both at place negated parts ts read = tt
-reads_amp (state.Minus hyphen) at place negated parts ts read = tt
-reads_amp (state.Last hyphen) at place negated parts ts read = tt
+reads_amp last at place negated parts ts read = tt
 
 -- a caret is read
 reads_caret : (last : SetState) (at place : ℕ) (negated : Bool) (parts : List PartTree) (ts : List Token) → IsSetRead ts (made place negated parts last) →
     IsStillSet (ts ++ token Caret at ∷ []) (at_set_caret last (made place negated parts last))
 reads_caret state.Opened at place negated parts ts ((begins, positive, none), leads) =
     rw (begins, none) (tt, λ us more h. (token Caret at ∷ [], us, refl, refl, (at, refl), h))
-reads_caret state.Begun at place negated parts ts read = tt
-reads_caret state.Apart at place negated parts ts read = tt
-reads_caret (state.Character d on) at place negated parts ts read = tt
-reads_caret (state.Ranging d on hyphen) at place negated parts ts read = tt
-reads_caret state.Operand at place negated parts ts read = tt
-reads_caret state.Both at place negated parts ts read = tt
-reads_caret (state.Minus hyphen) at place negated parts ts read = tt
-reads_caret (state.Last hyphen) at place negated parts ts read = tt
+reads_caret last at place negated parts ts read = tt
 
 -- an operand of one token is read, where one may stand
 reads_one : (at : ℕ) (i : SetItemTree) (ts a : List Token) (s : SetLevelTree) → IsSetRead ts s → IsOperand at a i →

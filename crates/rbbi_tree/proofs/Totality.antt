@@ -7,7 +7,7 @@ use Rattle.std.proofs.lemmas.Option.{slice_get_cases}
 use Rattle.rbbi_lex.specs.declared.token.Token.{Token}
 use Rattle.rbbi_tree.specs.Trees.{StatementTree}
 use Rattle.rbbi_tree.specs.Grammar.{IsFile}
-use Rattle.rbbi_tree.specs.inner.Statements.{HeadTree, between, assigning, ruling, resting, ended, Progress, after, advance, run}
+use Rattle.rbbi_tree.specs.inner.Statements.{HeadTree, between, Progress, after, advance, run}
 use Rattle.rbbi_tree.specs.Brackets.{IsDeepAt, IsShallow, IsShallowBefore, open_from}
 use Rattle.rbbi_tree.specs.Refusals.{BeginsFile, IsSyntaxAt, place_or_end, IsFaultOf}
 use Rattle.rbbi_tree.specs.declared.error.TreeErr.{TreeErr}
@@ -57,10 +57,7 @@ IsFine ts = (statements : List StatementTree) × IsFile ts statements × IsShall
 at_end : (ts : List Token) (end : ℕ) (head : HeadTree) (p : Progress) → run ts (after []) ≡ Some p → IsShallowBefore ts (length ts) → p.head ≡ head →
     IsFine ts ⊎ HasFault ts end
 at_end ts end between p ran shallow h = inl (p.statements, run_is_file ts p ran h, all_shallow ts (length ts) (omega arith) shallow)
-at_end ts end (assigning word at) p ran shallow h = inr (Syntax end, (refused_within ts end p ran (λ e. cc) shallow, refl))
-at_end ts end (ruling at no_chain_in) p ran shallow h = inr (Syntax end, (refused_within ts end p ran (λ e. cc) shallow, refl))
-at_end ts end (resting at no_chain_in front slash) p ran shallow h = inr (Syntax end, (refused_within ts end p ran (λ e. cc) shallow, refl))
-at_end ts end (ended s) p ran shallow h = inr (Syntax end, (refused_within ts end p ran (λ e. cc) shallow, refl))
+at_end ts end head p ran shallow h = inr (Syntax end, (refused_within ts end p ran (λ e. cc) shallow, refl))
 
 pub file_or_fault : (ts : List Token) (end : ℕ) → IsFine ts ⊎ HasFault ts end
 file_or_fault ts end =

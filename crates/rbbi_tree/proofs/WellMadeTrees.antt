@@ -4,8 +4,7 @@ use Rattle.rbbi_lex.specs.declared.token.Token.{Token}
 use Rattle.rbbi_lex.specs.declared.token.TokenKind.TheVariants.{Slash}
 use Rattle.rbbi_lex.specs.WellMade as tokens
 use Rattle.rbbi_tree.specs.Trees.{ExprTree, SeqTree, ItemTree, AtomTree, no_alternatives, alternative, no_items, item, placed, character, quoted, any, name}
-use Rattle.rbbi_tree.specs.Trees.{property, set, group}
-use Rattle.rbbi_tree.specs.Trees.{StatementTree, nothing, control, assign, rule}
+use Rattle.rbbi_tree.specs.Trees.{property, set, group, StatementTree, nothing, control, assign, rule}
 use Rattle.rbbi_tree.specs.Grammar.{token, IsExpr, AreMoreAlternatives, IsSeq, AreItems, IsItem, IsAtom, IsTag, IsOneSeq, IsMatcher, IsStatement, IsFile}
 use Rattle.rbbi_tree.specs.WellMade.{HasItem, AreWellMadeSeqs, AreWellMadeItems, IsWellMadeItem, IsWellMadeAtom, IsWellMadeExpr, IsWellMadeRest}
 use Rattle.rbbi_tree.specs.WellMade.{IsWellMade, AreWellMade}
@@ -66,10 +65,9 @@ one_made (alternative first (alternative next more)) ts is made = absurd is
 matcher_made : (front : ExprTree) (slash : Option ℕ) (rest : Option ExprTree) (ts : List Token) → IsMatcher ts front slash rest → tokens.AreWellMadeTokens ts →
     IsWellMadeExpr front × IsWellMadeRest slash rest
 matcher_made front None None ts is made = (expr_made front ts is made, tt)
-matcher_made front None (Some rest) ts is made = absurd is
-matcher_made front (Some slash) None ts is made = absurd is
 matcher_made front (Some slash) (Some rest) ts (a, b, h, left_is, right_is) made =
     let (left, right) = split ts a (token Slash slash ∷ b) h made in (one_made front a left_is left, one_made rest b right_is right.1)
+matcher_made front slash rest ts is made = absurd is
 
 tag_made : (tag : Option ℕ) (ts : List Token) → IsTag ts tag → tokens.AreWellMadeTokens ts → IfSome tag (λ status. status ≤ 2147483647)
 tag_made None ts is made = tt

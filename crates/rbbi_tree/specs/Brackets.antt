@@ -2,8 +2,7 @@
 use Rattle.std.specs.Prelude.{ℕ, ◌≡◌, ◌<◌, ◌≤◌, List, [], ◌∷◌, length, take, ◌+◌, ◌-◌}
 use Rattle.rbbi_lex.specs.declared.token.Token.{Token}
 use Rattle.rbbi_lex.specs.declared.token.TokenKind.{TokenKind}
-use Rattle.rbbi_lex.specs.declared.token.TokenKind.TheVariants.{ParenOpen, ParenClose, SetOpen}
-use Rattle.rbbi_lex.specs.declared.token.TokenKind.TheVariants.{SetClose}
+use Rattle.rbbi_lex.specs.declared.token.TokenKind.TheVariants.{ParenOpen, ParenClose, SetOpen, SetClose}
 
 -- how many brackets, round and square, are open after a token, where so many were open before it
 abbrev pub open_after : TokenKind → ℕ → ℕ

@@ -10,10 +10,8 @@ use Rattle.rbbi_tree.specs.declared.syntax.Quant.TheVariants.{Once, Star, Plus, 
 use Rattle.rbbi_tree.specs.declared.syntax.Join.{Join}
 use Rattle.rbbi_tree.specs.declared.syntax.Join.TheVariants.{Add, Both, Minus}
 use Rattle.rbbi_tree.specs.Trees.{SetSyntax, PartsTree, PartTree, SetItemTree, set_of, no_parts, part, joined, set_character, set_range, set_name, set_property}
-use Rattle.rbbi_tree.specs.Trees.{set_within}
-use Rattle.rbbi_tree.specs.Trees.{ExprTree, SeqTree, ItemTree, AtomTree, no_alternatives, alternative, no_items, item, placed, character, quoted, any, name}
-use Rattle.rbbi_tree.specs.Trees.{property, set, group}
-use Rattle.rbbi_tree.specs.Trees.{StatementTree, nothing, control, assign, rule}
+use Rattle.rbbi_tree.specs.Trees.{set_within, ExprTree, SeqTree, ItemTree, AtomTree, no_alternatives, alternative, no_items, item, placed, character, quoted}
+use Rattle.rbbi_tree.specs.Trees.{any, name, property, set, group, StatementTree, nothing, control, assign, rule}
 
 -- the token of this kind at this place
 abbrev pub token : TokenKind → ℕ → Token
@@ -41,7 +39,7 @@ abbrev pub IsTag : List Token → Option ℕ → Type 0
 IsTag tokens None = tokens ≡ []
 IsTag tokens (Some status) = (place : ℕ) × (tokens ≡ token (Tag status) place ∷ [])
 
--- where a part of a set may begin: right after the opening, where a hyphen stands for itself; behind an
+-- where a part of a set may begin: right after the opening, where a hyphen stands for itself; after an
 -- operand, where another may be joined to it; or elsewhere
 pub data Spot : Type 0 where
   opening : Spot
@@ -51,14 +49,12 @@ pub data Spot : Type 0 where
 -- right after the opening
 abbrev pub IsOpening : Spot → Type 0
 IsOpening opening = Unit {0}
-IsOpening behind = ⊥
-IsOpening elsewhere = ⊥
+IsOpening spot = ⊥
 
--- behind an operand
+-- after an operand
 abbrev pub IsBehind : Spot → Type 0
-IsBehind opening = ⊥
 IsBehind behind = Unit {0}
-IsBehind elsewhere = ⊥
+IsBehind spot = ⊥
 
 -- the sign of a join: none for a part that is added
 abbrev pub IsJoin : Spot → List Token → Join → Type 0
@@ -71,9 +67,7 @@ abbrev pub AreCharacters : ℕ → List Token → SetItemTree → Type 0
 AreCharacters place tokens (set_character c) = (bare : Bool) × (tokens ≡ token (Char c bare) place ∷ [])
 AreCharacters place tokens (set_range first last) =
     (bare bare' : Bool) × (hyphen end : ℕ) × (tokens ≡ token (Char first bare) place ∷ token Hyphen hyphen ∷ token (Char last bare') end ∷ [])
-AreCharacters place tokens (set_name word) = ⊥
-AreCharacters place tokens (set_property negated word value) = ⊥
-AreCharacters place tokens (set_within inner) = ⊥
+AreCharacters place tokens i = ⊥
 
 -- the part that a hyphen at this place is where it stands for itself
 abbrev pub hyphen_at : ℕ → PartTree
@@ -82,8 +76,7 @@ hyphen_at place = joined place Add (set_character 45)
 -- characters, as a part of a set
 abbrev pub AreCharactersPart : List Token → PartTree → Type 0
 AreCharactersPart tokens (joined place Add i) = AreCharacters place tokens i
-AreCharactersPart tokens (joined place Both i) = ⊥
-AreCharactersPart tokens (joined place Minus i) = ⊥
+AreCharactersPart tokens p = ⊥
 
 -- a hyphen that stands for itself right before the bracket that ends a set, and is its last part
 abbrev pub IsLastHyphen : List Token → PartTree → PartsTree → Type 0
@@ -114,11 +107,10 @@ abbrev mutual
 
   -- an operand of a set that begins at this place: a name, a property or a set
   pub IsOperand : ℕ → List Token → SetItemTree → Type 0
-  IsOperand place tokens (set_character c) = ⊥
-  IsOperand place tokens (set_range first last) = ⊥
   IsOperand place tokens (set_name word) = tokens ≡ token (Name word) place ∷ []
   IsOperand place tokens (set_property negated word value) = tokens ≡ token (Prop negated word value) place ∷ []
   IsOperand place tokens (set_within inner) = IsSet place tokens inner
+  IsOperand place tokens i = ⊥
 
 abbrev mutual
   -- an expression: a sequence, then any number of sequences with a bar before each
@@ -163,17 +155,15 @@ abbrev mutual
 
 -- an expression of one sequence
 abbrev pub IsOneSeq : List Token → ExprTree → Type 0
-IsOneSeq tokens no_alternatives = ⊥
 IsOneSeq tokens (alternative first no_alternatives) = IsSeq tokens first
-IsOneSeq tokens (alternative first (alternative next more)) = ⊥
+IsOneSeq tokens e = ⊥
 
 -- what a rule matches: an expression; or a front and a rest, each of one sequence, with a slash between them
 abbrev pub IsMatcher : List Token → ExprTree → Option ℕ → Option ExprTree → Type 0
 IsMatcher tokens front None None = IsExpr tokens front
-IsMatcher tokens front None (Some rest) = ⊥
-IsMatcher tokens front (Some slash) None = ⊥
 IsMatcher tokens front (Some slash) (Some rest) =
     (a : List Token) × (b : List Token) × (tokens ≡ a ++ token Slash slash ∷ b) × IsOneSeq a front × IsOneSeq b rest
+IsMatcher tokens front slash rest = ⊥
 
 -- a statement: a semicolon; a control, or a name, an equals sign and an expression, and a semicolon; or a rule,
 -- which has perhaps a caret, what it matches, perhaps a tag, and a semicolon, and the place of its first token

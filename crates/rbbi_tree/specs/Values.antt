@@ -1,8 +1,7 @@
 -- The trees that the values of the code stand for.
 use Rattle.std.specs.Prelude.{◌≡◌, List, map, Option, Some, None}
 use Rattle.rbbi_tree.specs.Trees.{SetSyntax, PartsTree, PartTree, SetItemTree, set_of, joined, set_character, set_range, set_name, set_property, set_within}
-use Rattle.rbbi_tree.specs.Trees.{parts_of}
-use Rattle.rbbi_tree.specs.Trees.{ExprTree, SeqTree, ItemTree, AtomTree, placed, character, quoted, any, name, property, set, group, expr_of, seq_of}
+use Rattle.rbbi_tree.specs.Trees.{parts_of, ExprTree, SeqTree, ItemTree, AtomTree, placed, character, quoted, any, name, property, set, group, expr_of, seq_of}
 use Rattle.rbbi_tree.specs.Trees.{StatementTree, nothing, control, assign, rule}
 use Rattle.rbbi_tree.specs.declared.syntax.SetExpr.{SetExpr}
 use Rattle.rbbi_tree.specs.declared.syntax.Parts.{Parts}

@@ -1,9 +1,8 @@
 -- What a reader of statements may rely on.
 use Rattle.std.specs.Prelude.{◌<◌, ◌≤◌, ℕ, List, length, Option, Some, None, IfSome}
 use Rattle.std.specs.List.{AllByRecursion}
-use Rattle.rbbi_tree.specs.Trees.{ExprTree, SeqTree, ItemTree, AtomTree, no_alternatives, alternative, no_items, item, placed, character, quoted, any, name}
-use Rattle.rbbi_tree.specs.Trees.{property, set, group}
-use Rattle.rbbi_tree.specs.Trees.{StatementTree, nothing, control, assign, rule}
+use Rattle.rbbi_tree.specs.Trees.{ExprTree, SeqTree, ItemTree, AtomTree, no_alternatives, alternative, no_items, item, placed, quoted, group, StatementTree}
+use Rattle.rbbi_tree.specs.Trees.{assign, rule}
 
 -- an expression has a sequence
 abbrev pub HasSeq : ExprTree → Type 0
@@ -32,13 +31,9 @@ abbrev mutual
 
   -- a quoted sequence isn't empty, and a group has a sequence and is well made
   pub IsWellMadeAtom : AtomTree → Type 0
-  IsWellMadeAtom (character c bare) = Unit {0}
   IsWellMadeAtom (quoted word) = 0 < length word
-  IsWellMadeAtom any = Unit {0}
-  IsWellMadeAtom (name word) = Unit {0}
-  IsWellMadeAtom (property negated word value) = Unit {0}
-  IsWellMadeAtom (set s) = Unit {0}
   IsWellMadeAtom (group inner) = HasSeq inner × AreWellMadeSeqs inner
+  IsWellMadeAtom atom = Unit {0}
 
 -- an expression has a sequence, each of its sequences and of those within has an item, and no quoted sequence is empty
 abbrev pub IsWellMadeExpr : ExprTree → Type 0
@@ -47,18 +42,16 @@ IsWellMadeExpr e = HasSeq e × AreWellMadeSeqs e
 -- a place of a slash and a rest come together, and the rest is well made
 abbrev pub IsWellMadeRest : Option ℕ → Option ExprTree → Type 0
 IsWellMadeRest None None = Unit {0}
-IsWellMadeRest None (Some rest) = ⊥
-IsWellMadeRest (Some slash) None = ⊥
 IsWellMadeRest (Some slash) (Some rest) = IsWellMadeExpr rest
+IsWellMadeRest slash rest = ⊥
 
 -- the expressions of the statement are well made, a rule has the place of a slash exactly where it has a rest, and its
 -- status number is at most 2,147,483,647
 abbrev pub IsWellMade : StatementTree → Type 0
-IsWellMade nothing = Unit {0}
-IsWellMade (control word place) = Unit {0}
 IsWellMade (assign word place e) = IsWellMadeExpr e
 IsWellMade (rule place no_chain_in front slash rest tag) =
     IsWellMadeExpr front × IsWellMadeRest slash rest × IfSome tag (λ status. status ≤ 2147483647)
+IsWellMade statement = Unit {0}
 
 -- each statement is well made
 abbrev pub AreWellMade : List StatementTree → Type 0

@@ -39,7 +39,7 @@ fn count_open(kind: &TokenKind, before: u32) -> u32
 /// name, a property, a set, or an expression in round brackets.
 ///
 /// A set is its parts in square brackets, the complement of them with a `^` first. A part is a
-/// character, two with `-` between them, or an operand: a name, a property or a set. Behind an
+/// character, two with `-` between them, or an operand: a name, a property or a set. After an
 /// operand, `&` or `-` joins another. A `-` right after the opening or right before the end stands
 /// for itself.
 ///

@@ -1,5 +1,5 @@
 //! An expression that is being read.
-ghost use Rattle.std.specs.Prelude.{◌≡◌, ◌==◌, OnOk, IfOk, length};
+ghost use Rattle.std.specs.Prelude.{◌≡◌, OnOk, IfOk};
 ghost use Rattle.rbbi_tree.specs.Values.{item_tree, expr_tree};
 ghost use Rattle.rbbi_tree.specs.inner.Statements.{
   empty_level,
@@ -22,8 +22,8 @@ use std::mem;
 /// An expression so far: the sequences that a bar ended, and the items after the last bar.
 #[derive(Drop)]
 pub struct Level {
-    sequences: Vec<Seq>,
-    items: Vec<Item>,
+    pub(crate) sequences: Vec<Seq>,
+    pub(crate) items: Vec<Item>,
 }
 
 impl Level {
@@ -35,20 +35,6 @@ impl Level {
             sequences: Vec::new(alloc),
             items: Vec::new(alloc),
         }
-    }
-
-    /// Whether no item stands after the last bar.
-    pub fn lacks_item(&self) -> bool
-        ensures { result ≡ (length self.now.items.items == 0) }
-    {
-        self.items.is_empty()
-    }
-
-    /// Whether there is no bar.
-    pub fn lacks_bar(&self) -> bool
-        ensures { result ≡ (length self.now.sequences.items == 0) }
-    {
-        self.sequences.is_empty()
     }
 
     /// One more item.
@@ -69,20 +55,10 @@ impl Level {
         let Some(item) = self.items.pop() else {
             return Err(TreeErr::Syntax(place));
         };
-        let Item {
-            place: at,
-            atom,
-            quant: former,
-        } = item;
-        match former {
-            Quant::Once => {}
-            Quant::Star | Quant::Plus | Quant::Quest => return Err(TreeErr::Syntax(place)),
-        }
-        self.items.push(Item {
-            place: at,
-            atom,
-            quant,
-        })?;
+        let Quant::Once = item.quant else {
+            return Err(TreeErr::Syntax(place));
+        };
+        self.items.push(Item { quant, ..item })?;
         Ok(())
     }
 

@@ -44,7 +44,7 @@ enum Head {
         no_chain_in: bool,
     },
     /// Perhaps a `^`, the place of the rule's first token, its front, and the place of the `/`
-    /// behind it.
+    /// after it.
     Rest {
         place: u32,
         no_chain_in: bool,
@@ -169,7 +169,7 @@ impl Parser {
     fn end_group(&mut self, place: u32) -> Result<(), TreeErr>
         ensures { ReadsOutside TokenKind.ParenClose place self.old result self.new }
     {
-        if self.level.lacks_item() {
+        if self.level.items.is_empty() {
             return Err(TreeErr::Syntax(place));
         }
         let Some(group) = self.groups.pop() else {
@@ -194,7 +194,7 @@ impl Parser {
     fn read_bar(&mut self, alloc: Global, place: u32) -> Result<(), TreeErr>
         ensures { ReadsOutside TokenKind.Bar place self.old result self.new }
     {
-        if self.level.lacks_item() {
+        if self.level.items.is_empty() {
             return Err(TreeErr::Syntax(place));
         }
         if self.groups.is_empty() && matches!(&self.head, Head::Rest { .. }) {
@@ -208,7 +208,10 @@ impl Parser {
     fn read_slash(&mut self, alloc: Global, place: u32) -> Result<(), TreeErr>
         ensures { ReadsOutside TokenKind.Slash place self.old result self.new }
     {
-        if self.level.lacks_item() || !self.level.lacks_bar() || !self.groups.is_empty() {
+        if self.level.items.is_empty()
+            || !self.level.sequences.is_empty()
+            || !self.groups.is_empty()
+        {
             return Err(TreeErr::Syntax(place));
         }
         let Head::Rule {

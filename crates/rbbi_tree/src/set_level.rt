@@ -62,7 +62,7 @@ pub enum SetState {
 #[derive(Drop)]
 pub struct SetLevel {
     /// The place of its bracket.
-    place: u32,
+    pub(crate) place: u32,
     negated: bool,
     /// Its parts, from first to last.
     parts: Vec<SetPart>,
@@ -93,13 +93,6 @@ impl SetLevel {
             parts: Vec::new(alloc),
             state: SetState::Opened,
         }
-    }
-
-    /// The place of its bracket.
-    pub fn place(&self) -> u32
-        ensures { result ≡ self.now.place }
-    {
-        self.place
     }
 
     /// Adds a part, and leaves this as what was read last.
@@ -142,21 +135,12 @@ impl SetLevel {
         ensures { let s = set_level_tree self.old in
             ReadsInSet place (at_set_caret s.state s) result self.new }
     {
-        match self.state {
-            SetState::Opened => {
-                self.negated = true;
-                self.state = SetState::Begun;
-                Ok(())
-            }
-            SetState::Begun
-            | SetState::Apart
-            | SetState::Character { .. }
-            | SetState::Ranging { .. }
-            | SetState::Operand
-            | SetState::Both
-            | SetState::Minus { .. }
-            | SetState::Last { .. } => Err(TreeErr::Syntax(place)),
-        }
+        let SetState::Opened = self.state else {
+            return Err(TreeErr::Syntax(place));
+        };
+        self.negated = true;
+        self.state = SetState::Begun;
+        Ok(())
     }
 
     /// Reads a hyphen: the character where it stands right after the opening, or else the sign of a
@@ -176,10 +160,7 @@ impl SetLevel {
                 };
             }
             SetState::Operand => self.state = SetState::Minus { hyphen: place },
-            SetState::Ranging { .. }
-            | SetState::Both
-            | SetState::Minus { .. }
-            | SetState::Last { .. } => return Err(TreeErr::Syntax(place)),
+            _ => return Err(TreeErr::Syntax(place)),
         }
         Ok(())
     }
@@ -189,20 +170,11 @@ impl SetLevel {
         ensures { let s = set_level_tree self.old in
             ReadsInSet place (at_set_amp s.state s) result self.new }
     {
-        match self.state {
-            SetState::Operand => {
-                self.state = SetState::Both;
-                Ok(())
-            }
-            SetState::Opened
-            | SetState::Begun
-            | SetState::Apart
-            | SetState::Character { .. }
-            | SetState::Ranging { .. }
-            | SetState::Both
-            | SetState::Minus { .. }
-            | SetState::Last { .. } => Err(TreeErr::Syntax(place)),
-        }
+        let SetState::Operand = self.state else {
+            return Err(TreeErr::Syntax(place));
+        };
+        self.state = SetState::Both;
+        Ok(())
     }
 
     /// Reads a character, which may begin or end a range.

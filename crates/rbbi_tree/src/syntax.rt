@@ -145,7 +145,7 @@ pub enum Statement {
         expr: Expr,
     },
     /// A rule: the place of its first token; whether a `^` stands first; what it matches, up to the
-    /// `/` where there is one; the place of the `/` and what stands behind it, which come together;
+    /// `/` where there is one; the place of the `/` and what stands after it, which come together;
     /// and its status.
     Rule {
         place: u32,

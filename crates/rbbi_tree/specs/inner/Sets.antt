@@ -1,8 +1,7 @@
 -- What a token makes of a set that is being read. The grammar knows nothing of it.
 use Rattle.std.specs.Prelude.{ℕ, Bool, true, false, List, [], ◌∷◌, Option, Some, None}
 use Rattle.rbbi_lex.specs.declared.token.TokenKind.{TokenKind}
-use Rattle.rbbi_lex.specs.declared.token.TokenKind.TheVariants.{Caret}
-use Rattle.rbbi_lex.specs.declared.token.TokenKind.TheVariants.{Hyphen, Amp, Char, Name, Prop}
+use Rattle.rbbi_lex.specs.declared.token.TokenKind.TheVariants.{Caret, Hyphen, Amp, Char, Name, Prop}
 use Rattle.rbbi_tree.specs.Trees.{SetSyntax, PartsTree, PartTree, SetItemTree, set_of, no_parts, part, joined, set_character, set_range, set_name, set_property}
 use Rattle.rbbi_tree.specs.Trees.{set_within}
 use Rattle.rbbi_tree.specs.Grammar.{hyphen_at}
@@ -44,15 +43,8 @@ character_at c place = joined place join.Add (set_character c)
 
 -- the parts, where no range comes of what was read last
 abbrev pub settled : SetState → List PartTree → List PartTree
-settled Opened parts = parts
-settled Begun parts = parts
-settled Apart parts = parts
 settled (Character c place) parts = character_at c place ∷ parts
-settled (Ranging c place hyphen) parts = parts
-settled Operand parts = parts
-settled Both parts = parts
-settled (Minus hyphen) parts = parts
-settled (Last hyphen) parts = parts
+settled state parts = parts
 
 -- what a caret does
 abbrev pub at_set_caret : SetState → SetLevelTree → Option SetLevelTree
@@ -65,11 +57,8 @@ at_set_hyphen at Opened s = Some (level_with s (hyphen_at at ∷ s.parts) Apart)
 at_set_hyphen at Begun s = Some (level_with s (hyphen_at at ∷ s.parts) Apart)
 at_set_hyphen at Apart s = Some (level_with s s.parts (Last at))
 at_set_hyphen at (Character c place) s = Some (level_with s s.parts (Ranging c place at))
-at_set_hyphen at (Ranging c place hyphen) s = None
 at_set_hyphen at Operand s = Some (level_with s s.parts (Minus at))
-at_set_hyphen at Both s = None
-at_set_hyphen at (Minus hyphen) s = None
-at_set_hyphen at (Last hyphen) s = None
+at_set_hyphen at state s = None
 
 -- what an ampersand does
 abbrev pub at_set_amp : SetState → SetLevelTree → Option SetLevelTree
@@ -78,27 +67,20 @@ at_set_amp state s = None
 
 -- what a character does
 abbrev pub at_set_character : ℕ → ℕ → SetState → SetLevelTree → Option SetLevelTree
-at_set_character d at Opened s = Some (level_with s s.parts (Character d at))
-at_set_character d at Begun s = Some (level_with s s.parts (Character d at))
-at_set_character d at Apart s = Some (level_with s s.parts (Character d at))
 at_set_character d at (Character c place) s = Some (level_with s (character_at c place ∷ s.parts) (Character d at))
 at_set_character d at (Ranging c place hyphen) s = Some (level_with s (joined place join.Add (set_range c d) ∷ s.parts) Apart)
-at_set_character d at Operand s = Some (level_with s s.parts (Character d at))
 at_set_character d at Both s = None
 at_set_character d at (Minus hyphen) s = None
 at_set_character d at (Last hyphen) s = None
+at_set_character d at state s = Some (level_with s s.parts (Character d at))
 
 -- how an operand is joined, where one may stand
 abbrev pub join_in : SetState → Option Join
-join_in Opened = Some join.Add
-join_in Begun = Some join.Add
-join_in Apart = Some join.Add
-join_in (Character c place) = Some join.Add
 join_in (Ranging c place hyphen) = None
-join_in Operand = Some join.Add
 join_in Both = Some join.Both
 join_in (Minus hyphen) = Some join.Minus
 join_in (Last hyphen) = None
+join_in state = Some join.Add
 
 -- what an operand of one token does
 abbrev pub at_set_operand : ℕ → SetItemTree → Option Join → SetLevelTree → Option SetLevelTree
@@ -117,15 +99,12 @@ at_set_token kind place s = None
 
 -- the parts of a set that ends, where it may end
 abbrev pub ended_parts : SetState → List PartTree → Option (List PartTree)
-ended_parts Opened parts = Some parts
-ended_parts Begun parts = Some parts
-ended_parts Apart parts = Some parts
 ended_parts (Character c place) parts = Some (character_at c place ∷ parts)
 ended_parts (Ranging c place hyphen) parts = Some (hyphen_at hyphen ∷ character_at c place ∷ parts)
-ended_parts Operand parts = Some parts
 ended_parts Both parts = None
 ended_parts (Minus hyphen) parts = Some (hyphen_at hyphen ∷ parts)
 ended_parts (Last hyphen) parts = Some (hyphen_at hyphen ∷ parts)
+ended_parts state parts = Some parts
 
 -- the parts, the latest first, before these
 abbrev pub parts_back : List PartTree → PartsTree → PartsTree

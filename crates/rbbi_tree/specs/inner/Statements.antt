@@ -3,7 +3,7 @@ use Rattle.std.specs.Prelude.{ℕ, Bool, true, false, List, [], ◌∷◌, ◌++
 use Rattle.rbbi_lex.specs.declared.token.Token.{Token}
 use Rattle.rbbi_lex.specs.declared.token.TokenKind.{TokenKind}
 use Rattle.rbbi_lex.specs.declared.token.TokenKind.TheVariants.{Semi, Equals, Bar, Slash, Caret, Star, Plus, Quest, Dot, ParenOpen, ParenClose, SetOpen}
-use Rattle.rbbi_lex.specs.declared.token.TokenKind.TheVariants.{SetClose, Hyphen, Amp, Char, Quoted, Name, Control, Tag, Prop}
+use Rattle.rbbi_lex.specs.declared.token.TokenKind.TheVariants.{SetClose, Char, Quoted, Name, Control, Tag, Prop}
 use Rattle.rbbi_tree.specs.declared.syntax.Join.{Join}
 use Rattle.rbbi_tree.specs.declared.syntax.Quant.{Quant}
 use Rattle.rbbi_tree.specs.declared.syntax.Quant.TheVariants as quant
@@ -93,10 +93,8 @@ with_statement s p = record { statements = p.statements ++ s ∷ []; head = betw
 -- what the first token of an atom at this place does before it is read
 abbrev pub begun : ℕ → HeadTree → Progress → Option Progress
 begun place between p = Some (with_head (ruling place false) p)
-begun place (assigning word at) p = Some p
-begun place (ruling at no_chain_in) p = Some p
-begun place (resting at no_chain_in front slash) p = Some p
 begun place (ended s) p = None
+begun place head p = Some p
 
 -- an atom is read at this place
 abbrev pub atom_read : ℕ → AtomTree → Progress → Progress
@@ -114,14 +112,7 @@ set_begun place p = with_sets (Some (record { innermost = new_set_level place; o
 -- the innermost group ends
 abbrev pub group_ended : GroupTree → List GroupTree → Progress → Progress
 group_ended innermost groups p =
-    record {
-      statements = p.statements;
-      head = p.head;
-      groups = groups;
-      level =
-          with_item (placed innermost.place (group (whole p.level)) quant.Once) innermost.outer;
-      sets = p.sets;
-    }
+    record p { groups = groups; level = with_item (placed innermost.place (group (whole p.level)) quant.Once) innermost.outer }
 
 -- what an atom of one token does
 abbrev pub at_atom : ℕ → AtomTree → Progress → Option Progress
@@ -137,11 +128,8 @@ at_set_open place p = option_map (set_begun place) (begun place p.head p)
 
 -- the items, the latest first, with a sign how often the latest stands, where it has none
 abbrev pub quantified : Quant → List ItemTree → Option (List ItemTree)
-quantified q [] = None
 quantified q (placed place atom quant.Once ∷ items) = Some (placed place atom q ∷ items)
-quantified q (placed place atom quant.Star ∷ items) = None
-quantified q (placed place atom quant.Plus ∷ items) = None
-quantified q (placed place atom quant.Quest ∷ items) = None
+quantified q items = None
 
 -- what a sign how often an atom stands does: there must be an atom right before it
 abbrev pub at_quant : Option (List ItemTree) → Progress → Option Progress
@@ -150,11 +138,8 @@ at_quant (Some items) p = Some (with_level (record { sequences = p.level.sequenc
 
 -- what a bar does outside of groups: none stands with a slash
 abbrev pub at_outer_bar : HeadTree → Progress → Option Progress
-at_outer_bar between p = Some (with_level (with_sequence p.level) p)
-at_outer_bar (assigning word at) p = Some (with_level (with_sequence p.level) p)
-at_outer_bar (ruling at no_chain_in) p = Some (with_level (with_sequence p.level) p)
 at_outer_bar (resting at no_chain_in front slash) p = None
-at_outer_bar (ended s) p = Some (with_level (with_sequence p.level) p)
+at_outer_bar head p = Some (with_level (with_sequence p.level) p)
 
 -- what a bar does: there must be items before it
 abbrev pub at_bar : List ItemTree → List GroupTree → Progress → Option Progress
@@ -164,24 +149,18 @@ at_bar (i ∷ is) (innermost ∷ groups) p = Some (with_level (with_sequence p.l
 
 -- what a closing bracket does: there must be items before it, and a group
 abbrev pub at_close : List ItemTree → List GroupTree → Progress → Option Progress
-at_close [] groups p = None
-at_close (i ∷ is) [] p = None
 at_close (i ∷ is) (innermost ∷ groups) p = Some (group_ended innermost groups p)
+at_close items groups p = None
 
 -- what a slash does at the end of a front of one sequence
 abbrev pub at_front_end : ℕ → HeadTree → Progress → Option Progress
-at_front_end slash between p = None
-at_front_end slash (assigning word at) p = None
 at_front_end slash (ruling at no_chain_in) p = Some (with_head_alone (resting at no_chain_in (whole p.level) slash) p)
-at_front_end slash (resting at no_chain_in front slash') p = None
-at_front_end slash (ended s) p = None
+at_front_end slash head p = None
 
 -- what a slash does: there must be items before it, no bar and no group
 abbrev pub at_slash : ℕ → List ItemTree → List SeqTree → List GroupTree → Progress → Option Progress
-at_slash place [] sequences groups p = None
 at_slash place (i ∷ is) [] [] p = at_front_end place p.head p
-at_slash place (i ∷ is) [] (innermost ∷ groups) p = None
-at_slash place (i ∷ is) (s ∷ sequences) groups p = None
+at_slash place items sequences groups p = None
 
 -- what a caret does outside of sets: it begins a rule
 abbrev pub at_caret : ℕ → HeadTree → Progress → Option Progress
@@ -210,18 +189,15 @@ at_equals head groups p = None
 
 -- the statement that ends with this expression and this tag, if any
 abbrev pub statement_of : HeadTree → ExprTree → Option ℕ → Option StatementTree
-statement_of between e tag = None
 statement_of (assigning word at) e None = Some (assign word at e)
-statement_of (assigning word at) e (Some status) = None
 statement_of (ruling at no_chain_in) e tag = Some (rule at no_chain_in e None None tag)
 statement_of (resting at no_chain_in front slash) e tag = Some (rule at no_chain_in front (Some slash) (Some e) tag)
-statement_of (ended s) e tag = None
+statement_of head e tag = None
 
 -- the statement that ends with this tag, where there are items at the end and no group is open
 abbrev pub statement_at : List ItemTree → List GroupTree → Option ℕ → Progress → Option StatementTree
-statement_at [] groups tag p = None
 statement_at (i ∷ is) [] tag p = statement_of p.head (whole p.level) tag
-statement_at (i ∷ is) (innermost ∷ groups) tag p = None
+statement_at items groups tag p = None
 
 -- the whole statement is read but its semicolon, if it is one
 abbrev pub statement_read : Option StatementTree → Progress → Option Progress
@@ -236,10 +212,8 @@ statement_ended (Some s) p = Some (with_statement s (with_head_alone between p))
 -- what a semicolon does
 abbrev pub at_semi : HeadTree → Progress → Option Progress
 at_semi between p = Some (with_statement nothing p)
-at_semi (assigning word at) p = statement_ended (statement_at p.level.items p.groups None p) p
-at_semi (ruling at no_chain_in) p = statement_ended (statement_at p.level.items p.groups None p) p
-at_semi (resting at no_chain_in front slash) p = statement_ended (statement_at p.level.items p.groups None p) p
 at_semi (ended s) p = Some (with_statement s p)
+at_semi head p = statement_ended (statement_at p.level.items p.groups None p) p
 
 -- what a token of this kind at this place does outside of sets
 abbrev pub advance_outside : TokenKind → ℕ → Progress → Option Progress
@@ -255,15 +229,13 @@ advance_outside Dot place p = at_atom place any p
 advance_outside ParenOpen place p = at_open place p
 advance_outside ParenClose place p = at_close p.level.items p.groups p
 advance_outside SetOpen place p = at_set_open place p
-advance_outside SetClose place p = None
-advance_outside Hyphen place p = None
-advance_outside Amp place p = None
 advance_outside (Char c bare) place p = at_atom place (character c bare) p
 advance_outside (Quoted word) place p = at_atom place (quoted word) p
 advance_outside (Name word) place p = at_atom place (name word) p
 advance_outside (Control word) place p = at_control word place p.head p
 advance_outside (Tag status) place p = statement_read (statement_at p.level.items p.groups (Some status) p) p
 advance_outside (Prop negated word value) place p = at_atom place (property negated word value) p
+advance_outside kind place p = None
 
 -- the innermost set became this
 abbrev pub set_kept : List OuterSetTree → Progress → Option SetLevelTree → Option Progress

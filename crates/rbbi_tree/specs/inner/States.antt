@@ -1,10 +1,9 @@
 -- What the parser's state stands for.
-use Rattle.std.specs.Prelude.{ℕ, Some, None, map, reverse, Option, Result}
+use Rattle.std.specs.Prelude.{ℕ, Some, map, option_map, reverse, Result}
 use Rattle.rbbi_lex.specs.declared.token.TokenKind.{TokenKind}
 use Rattle.rbbi_tree.specs.Values.{expr_tree, seq_tree, item_tree, statement_tree, statement_trees}
 use Rattle.rbbi_tree.specs.inner.Sets.{SetsTree}
-use Rattle.rbbi_tree.specs.inner.Statements.{LevelTree, GroupTree, HeadTree, between, assigning, ruling, resting, ended, Progress, with_sets}
-use Rattle.rbbi_tree.specs.inner.Statements.{advance_outside}
+use Rattle.rbbi_tree.specs.inner.Statements.{LevelTree, GroupTree, HeadTree, between, assigning, ruling, resting, ended, Progress, with_sets, advance_outside}
 use Rattle.rbbi_tree.specs.inner.Statements.{advance_inside}
 use Rattle.rbbi_tree.specs.inner.SetStates.{set_level_tree, outer_set_tree, FollowsMachine}
 use Rattle.rbbi_tree.specs.declared.error.TreeErr.{TreeErr}
@@ -27,11 +26,6 @@ group_tree g = record { place = g.place; outer = level_tree g.outer }
 abbrev pub sets_tree : OpenSets → SetsTree
 sets_tree sets = record { innermost = set_level_tree sets.innermost; outers = reverse (map outer_set_tree sets.outers.items) }
 
--- the open sets that a value stands for, where some are open
-abbrev pub open_sets_tree : Option OpenSets → Option SetsTree
-open_sets_tree None = None
-open_sets_tree (Some sets) = Some (sets_tree sets)
-
 -- the head that a value stands for
 abbrev pub head_tree : Head → HeadTree
 head_tree Between = between
@@ -49,7 +43,7 @@ progress parser =
       groups = reverse (map group_tree parser.groups.items);
       level =
           level_tree parser.level;
-      sets = open_sets_tree parser.sets;
+      sets = option_map sets_tree parser.sets;
     }
 
 -- what reading a token of this kind at this place outside of sets answers, and the parser before and after it

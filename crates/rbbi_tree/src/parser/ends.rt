@@ -33,7 +33,7 @@ impl Parser {
         ensures head_alone { OnOk result
             (progress self.new ≡ with_head_alone between (progress self.old)) }
     {
-        if self.level.lacks_item() || !self.groups.is_empty() {
+        if self.level.items.is_empty() || !self.groups.is_empty() {
             return Err(TreeErr::Syntax(place));
         }
         let level = mem::replace(&mut self.level, Level::new(alloc));

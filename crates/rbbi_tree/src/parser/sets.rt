@@ -36,7 +36,7 @@ impl Parser {
             innermost,
             mut outers,
         } = sets;
-        let at = innermost.place();
+        let at = innermost.place;
         let set = innermost.into_set(place)?;
         let Some(outer) = outers.pop() else {
             self.push_atom(at, Atom::Set(set))?;

@@ -3,7 +3,7 @@ use Rattle.std.proofs.lemmas.Result.{err_from_is_err_and}
 use Rattle.rbbi_lex.specs.Places.{PlacesRise}
 use Rattle.rbbi_lex.specs.Cases.{start_state}
 use Rattle.rbbi_lex.specs.Errors.{TellsFault}
-use Rattle.rbbi_lex.proofs.LexingLemmas.{UsesUp-push, StopsAt-tells, step_forward, UsesUp-rise, UsesUp-well_made}
+use Rattle.rbbi_lex.proofs.LexingLemmas.{UsesUp-push, StopsAt-reports, step_forward, UsesUp-rise, UsesUp-well_made}
 use Rattle.rbbi_lex.proofs.text.lex.Goals as goal
 
 pub loop-lexer-init : goal.loop-lexer-init
@@ -14,12 +14,12 @@ loop-lexer-init c =
 pub returns-in_err-token-clause-exact : goal.returns-in_err-token-clause-exact
 returns-in_err-token-clause-exact c =
     let lexer = c.loop-lexer.lexer in
-    let tells =
-    StopsAt-tells lexer.characters.items c.loop-lexer.tokens lexer.state lexer.place c.in_err-token.field-0.0 c.loop-lexer.invariant.read
+    let reported =
+    StopsAt-reports lexer.characters.items c.loop-lexer.tokens lexer.state lexer.place c.in_err-token.field-0.0 c.loop-lexer.invariant.read
     c.in_err-token.ensures.step in
-    let told = subst (λ (x : List ℕ). TellsFault x c.in_err-token.field-0.0) c.loop-lexer.invariant.characters tells in
+    let here = subst (λ (x : List ℕ). TellsFault x c.in_err-token.field-0.0) c.loop-lexer.invariant.characters reported in
     let exit = err_from_is_err_and c.from_residual-in_err-token.result c.from_residual-in_err-token.ensures.1 in
-    rw (exit.1, exit.2) told
+    rw (exit.1, exit.2) here
 
 pub loop-lexer-smaller : goal.loop-lexer-smaller
 loop-lexer-smaller c =

@@ -1,5 +1,4 @@
-use Rattle.std.proofs.Common.{sym, subst}
-use Rattle.std.proofs.Common.{ℕ, ◌≤◌, ◌↔◌}
+use Rattle.std.proofs.Common.{sym, subst, ℕ, ◌≤◌, ◌↔◌}
 use Rattle.rbbi_classes.specs.Classes.{ClassBits, HasClass}
 use Rattle.rbbi_classes.proofs.ClassSpans.{has_made}
 use Rattle.rbbi_classes.proofs.class_set.ClassSet.of_span.Goals as goal

@@ -1,7 +1,6 @@
 -- A range with a character, and none.
 use Rattle.std.proofs.Common.{◌≡◌, ◌<◌, ◌⊎◌, inl, inr, ap, subst, sym, refl, ◌∙◌, get_or, arith}
-use Rattle.std.proofs.lemmas.Bool.{cases_eq, false≢true}
-use Rattle.std.proofs.lemmas.List.{get_or_default}
+use Rattle.std.proofs.lemmas.Bool.{false≢true}
 use Rattle.rbbi_model.specs.Ranges.{Range}
 use Rattle.rbbi_sets.specs.Rising.{AreRising}
 use Rattle.rbbi_sets.proofs.Meanings.{character_of_range, surrogates_alone}
@@ -23,22 +22,6 @@ returns-then-range-lt55296 c =
     ] in
     let rises : AreRising items = subst AreRising (sym c.deref-range-items.ensures.value) c.self.invariant in
     rw (← inside) (λ t. character_of_range items c.loop-range.range-index d rises (omega arith) some, λ w. refl)
-
-pub loop-range-preserved : goal.loop-range-preserved
-loop-range-preserved c =
-    let items = c.deref-range-items.result.now in
-    λ k d l.
-    let low : c.range.inside.low ≡ (get_or items c.loop-range.range-index c.range-item.result).low =
-    ap (λ (r : Range). r.low) (c.range.view_is ∙ c.range-item.is) in
-    let high : c.range.inside.high ≡ (get_or items c.loop-range.range-index c.range-item.result).high =
-    ap (λ (r : Range). r.high) (c.range.view_is ∙ c.range-item.is) in
-    let same = get_or_default items c.loop-range.range-index d c.range-item.result (omega arith) in
-    elim (cases_eq k c.loop-range.range-index) [
-      | inl here ↦
-          let is = ap (λ i. get_or items i d) here ∙ same in
-          (omega (arith, low, ap (λ (r : Range). r.low) is), omega (arith, high, ap (λ (r : Range). r.high) is))
-      | inr other ↦ c.loop-range.invariant k d (omega arith)
-    ]
 
 pub returns : goal.returns
 returns c =
