@@ -1,4 +1,4 @@
--- Entries that are moved, one after the other, behind those of a run.
+-- Entries that are moved, one after the other, after those of a run.
 use Rattle.std.proofs.Common.{◌≡◌, ℕ, ◌+◌, ◌-◌, ◌<◌, ◌≤◌, Bool, eqb, leb, List, [], ◌∷◌, ◌++◌, length, length-append, map, filter, get_or}
 use Rattle.std.proofs.Common.{take, sym, ap, ◌∙◌, append_assoc, arith}
 use Rattle.std.proofs.lemmas.Bool.{cond-true, cond-false, le-leb, lt-leb, ne_eqb}
@@ -13,7 +13,7 @@ use Rattle.rbbi_cache.specs.inner.Parts.{CanMove}
 filter_shorter : {X : Type 0} (test : X → Bool) (xs : List X) → length (filter test xs) ≤ length xs
 filter_shorter test xs = omega (arith, length-filter test xs, count_by-le-length test xs)
 
--- an entry that lies behind what was removed, moved
+-- an entry that lies after what was removed, moved
 pub moved_is : (removed inserted : ℕ) (entry : Entry) (at status reach : ℕ) → CanMove removed entry → at ≡ entry.at → status ≡ entry.status →
     reach ≡ entry.reach →
     record { at = at - removed + inserted; status = status; reach = reach - removed + inserted } ≡ moved_entry removed inserted entry

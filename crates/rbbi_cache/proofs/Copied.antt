@@ -24,7 +24,7 @@ to_end k xs = ap (λ n. take n (drop k xs)) (sym (length-drop k xs)) ∙ take-le
 abbrev run_of : ℕ → Bool → List Entry → Run
 run_of anchor leads entries = record { anchor = anchor; entries = entries; leads = leads }
 
--- a part that begins anew and to which a list is added
+-- a part that begins again and to which a list is added
 filled : (restarted part : Run) (anchor : ℕ) (leads : Bool) (list entries : List Entry) →
     restarted ≡ run_of anchor leads [] → part ≡ with_more restarted list → list ≡ entries → part ≡ run_of anchor leads entries
 filled restarted part anchor leads list entries restarted_is part_is list_is =

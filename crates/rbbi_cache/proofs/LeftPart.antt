@@ -154,7 +154,7 @@ module _ (table : Table) (valid : IsValidTable table) (x y : List ℕ) (at remov
           ap largest (same_look done each_short),
         )
 
-  -- the run's anchor is one of the new text, where an entry behind it is found without looking at the edit
+  -- the run's anchor is one of the new text, where an entry after it is found without looking at the edit
   anchor_stays : (front : List Entry) (entry : Entry) (rest : List Entry) → run.entries ≡ front ++ entry ∷ rest → entry.reach ≤ at → IsAnchor table y run.anchor
   anchor_stays front entry rest whole up_to =
       ⊎_elim

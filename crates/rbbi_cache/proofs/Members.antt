@@ -11,7 +11,7 @@ abbrev pub SomeMember : (Boundary → Type 0) → List Boundary → Type 0
 SomeMember Such [] = ⊥
 SomeMember Such (b ∷ bs) = Such b ⊎ SomeMember Such bs
 
--- a member that is such a one, and what stands before and behind it
+-- a member that is such a one, and what stands before and after it
 pub record Stands (Such : Boundary → Type 0) (bs : List Boundary) : Type 0 where
   pub before : List Boundary
   pub member : Boundary

@@ -1,4 +1,4 @@
--- A true run that lies behind an edit is true of the new text when it is moved.
+-- A true run that lies after an edit is true of the new text when it is moved.
 use Rattle.std.proofs.Common.{◌≡◌, ℕ, ◌+◌, ◌-◌, ◌<◌, ◌≤◌, ◌⊎◌, Bool, List, [], ◌∷◌, ◌++◌, length, map, get_or, sym, refl, ap, ◌∙◌, subst, inl, inr, ⊎_elim}
 use Rattle.std.proofs.Common.{append_assoc, arith}
 use Rattle.std.specs.Prelude.{IsTrue}
@@ -28,7 +28,7 @@ pub largest_least : (k : ℕ) (ns : List ℕ) → AllByRecursion (λ n. n ≤ k)
 largest_least k [] each = omega arith
 largest_least k (n ∷ ns) each = omega (arith, each.0, largest_least k ns each.1)
 
--- each member lies at the start of the path or behind it
+-- each member lies at the start of the path or after it
 pub path_from : (table : Table) (x : List ℕ) (b : Boundary) (done : List Boundary) (c : Boundary) → Path table x b done c →
     AllByRecursion (λ m. b.at ≤ m.at) done × (b.at ≤ c.at)
 path_from table x _ _ _ (Here b) = (tt, omega arith)
@@ -44,7 +44,7 @@ rises_moved removed inserted (e ∷ []) rise = tt
 rises_moved removed inserted (e ∷ f ∷ entries) rise = (omega (arith, rise.0), rises_moved removed inserted (f ∷ entries) rise.1)
 
 module _ (table : Table) (valid : IsValidTable table) (x y : List ℕ) (at removed inserted : ℕ) (edited : IsSpliced x y at removed inserted) where
-  -- the categories behind the edit are the same
+  -- the categories after the edit are the same
   pub same_category : (p : ℕ) → at + removed ≤ p → category_at table y (p + inserted - removed) ≡ category_at table x p
   same_category p from =
       ap (category_of table.ranges)

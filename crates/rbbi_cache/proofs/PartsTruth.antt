@@ -50,7 +50,7 @@ movable table valid x run is_true small =
     }
 
 module _ (table : Table) (valid : IsValidTable table) (x y : List ℕ) (at removed inserted : ℕ) (edited : IsSpliced x y at removed inserted) where
-  -- a pair behind the edit begins in both texts
+  -- a pair after the edit begins in both texts
   begins_same : (p q : ℕ) → at + removed ≤ p → p + inserted - removed ≡ q → begins_pair table x p ≡ begins_pair table y q
   begins_same p q behind is =
       let size = length_is x y at removed inserted edited in

@@ -56,7 +56,7 @@ none_follows next n (suc most) here end = cond-false (ltb here.at n) (next here.
 max_zero : (a b : ℕ) → max a (max b 0) ≡ max a b
 max_zero a b = omega arith
 
--- what stands before a member lies before it, and what stands behind it lies behind it
+-- what stands before a member lies before it, and what stands after it lies after it
 pub rises_before : (done : List Boundary) (here : Boundary) (rest : List Boundary) → IsRising (places (done ++ here ∷ rest)) →
     AllByRecursion (λ b. b.at < here.at) done
 rises_before [] here rest rising = tt

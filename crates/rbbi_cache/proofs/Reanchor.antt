@@ -1,4 +1,4 @@
--- The entries of a true run behind a safe pair are a true run of that pair.
+-- The entries of a true run after a safe pair are a true run of that pair.
 use Rattle.std.proofs.Common.{◌≡◌, ℕ, ◌+◌, ◌<◌, ◌≤◌, ◌⊎◌, true, false, eqb, leb, ltb, List, [], ◌∷◌, ◌++◌, length, length-append, map, filter, sym, refl, ap}
 use Rattle.std.proofs.Common.{◌∙◌, subst, inr, ⊎_elim, append_assoc, arith}
 use Rattle.std.specs.Prelude.{IsTrue}
@@ -195,7 +195,7 @@ module _ (table : Table) (valid : IsValidTable table) (x : List ℕ) (run : Run)
             (sym (cond-false (ltb b.at entry.at) (b ∷ filter (λ m. ltb m.at entry.at) bs) (filter (λ m. ltb m.at entry.at) bs) fails)) more)
             (cases_Bool (ltb b.at entry.at))
 
-  -- the entries from two characters behind the pair on are a true run of it
+  -- the entries from two characters after the pair on are a true run of it
   pub true_behind : (front : List Entry) (first : Entry) (more : List Entry) → run.entries ≡ front ++ first ∷ more →
       AllByRecursion (λ e. q + 2 ≤ e.at) (first ∷ more) → IsTrueRun table x (record { anchor = q; entries = first ∷ more; leads = false })
   true_behind front first more whole past =

@@ -187,7 +187,7 @@ module _ (table : Table) (valid : IsValidTable table) (x : List ℕ) (p : ℕ) w
 
 module _ (table : Table) (valid : IsValidTable table) (x y : List ℕ) (at removed inserted : ℕ) (edited : IsSpliced x y at removed inserted) (run : Run)
     (is_true : IsTrueRun table x run) where
-  -- what is kept behind a pair is the last entries, moved
+  -- what is kept after a pair is the last entries, moved
   kept_behind : (q q' : ℕ) → at + removed ≤ q' → q' + inserted - removed ≡ q → removed ≤ q' → (entries : List Entry) →
       filter (λ e. leb (q + 2) e.at) (map (moved_entry removed inserted) (filter (λ e. ltb (at + removed) e.at) entries)) ≡ map
       (moved_entry removed inserted) (filter (λ e. leb (q' + 2) e.at) entries)
@@ -217,7 +217,7 @@ module _ (table : Table) (valid : IsValidTable table) (x y : List ℕ) (at remov
       ∙ ap (map m) (sym (cond-true (leb (q' + 2) e.at) (e ∷ kept entries) (kept entries) (le-leb (q' + 2) e.at from))))
       (cases_lt e.at (q' + 2))
 
-  -- the run's anchor isn't behind the pair
+  -- the run's anchor isn't after the pair
   anchor_before : (q' : ℕ) → at + removed ≤ q' → goes_whole table x at removed run ≡ false → run.anchor ≤ q'
   anchor_before q' behind fails =
       ⊎_elim

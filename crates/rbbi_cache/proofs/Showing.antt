@@ -70,7 +70,7 @@ module _ (run : Run) (i count : ℕ) (d : Entry) (are : AreUpTo run.entries i co
       (λ first. let far = follows first.1 in omega (arith, first.2))
       shows.nearest
 
-  -- the one behind them is shown
+  -- the one after them is shown
   pub shown_next : (short : count < length run.entries) → ((0 < count) ⊎ (IsTrue run.leads × (low run.anchor ≤ i + 1))) →
       IsShownAfter run i (get_or run.entries count d)
   shown_next short nearest =

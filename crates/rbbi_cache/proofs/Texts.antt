@@ -82,7 +82,7 @@ module _ (x y : List ℕ) (at removed inserted : ℕ) (edited : IsSpliced x y at
   pub room_before : (table : Table) (s : ℕ) → s < length x → look_end table x s ≤ at → s < length y
   room_before table s short look = let within = edited.within in omega (arith, length_is, (look_lies table x s short).0)
 
-  -- behind the edit the texts are the same
+  -- after the edit the texts are the same
   pub same_behind : (s : ℕ) → at + removed ≤ s → drop (s + inserted - removed) y ≡ drop s x
   same_behind s from =
       let here : at + removed + (s - (at + removed)) ≡ s = omega arith in
@@ -93,7 +93,7 @@ module _ (x y : List ℕ) (at removed inserted : ℕ) (edited : IsSpliced x y at
       ∙ drop-drop (s - (at + removed)) (at + removed) x
       ∙ ap (λ n. drop n x) here
 
-  -- so each search from behind it is moved
+  -- so each search from after it is moved
   pub alike_behind : (table : Table) (s : ℕ) → at + removed ≤ s → s < length x → ReadsAlike table x y s (s + inserted - removed)
   alike_behind table s from short =
       let lies = end_lies table x s short in

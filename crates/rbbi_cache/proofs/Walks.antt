@@ -22,7 +22,7 @@ greatest_is test (suc high) p below holds none =
     ∙ greatest_is test high p (omega arith) holds (λ q past less. none q past (omega arith)))
     (cases_eq p high)
 
--- a walk back has come to a place, with the category of the character behind it, and passed no anchor
+-- a walk back has come to a place, with the category of the character after it, and passed no anchor
 pub record WalksBack (table : Table) (x : List ℕ) (high place next : ℕ) : Type 0 where
   pub below : place < high
   pub category : next ≡ category_of table.ranges (get_or x (place + 1) 0)

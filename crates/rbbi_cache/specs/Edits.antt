@@ -15,7 +15,7 @@ pub record IsSpliced (x y : List ℕ) (at removed inserted : ℕ) : Type 0 where
   pub many : length characters ≡ inserted
   pub spliced : y ≡ splice x at removed characters
 
--- how many places behind an edit are looked at for a safe pair
+-- how many places after an edit are looked at for a safe pair
 abbrev pub pair_places : ℕ
 pair_places = 1024
 
@@ -57,7 +57,7 @@ moved_run at removed inserted run =
     }
     else record { anchor = anchor; entries = map (moved_entry removed inserted) run.entries; leads = run.leads && not (anchor == 0) }
 
--- The entries behind the edit, moved, from two characters behind a safe pair on; they have the pair as their anchor.
+-- The entries after the edit, moved, from two characters after a safe pair on; they have the pair as their anchor.
 abbrev pub run_behind : ℕ → ℕ → ℕ → ℕ → Run → Run
 run_behind at removed inserted q run =
     record {
@@ -66,12 +66,11 @@ run_behind at removed inserted q run =
       leads = false;
     }
 
--- the run's anchor lies behind what was removed, and a safe pair of the old text begins there
+-- the run's anchor lies after what was removed, and a safe pair of the old text begins there
 abbrev pub goes_whole : Table → List ℕ → ℕ → ℕ → Run → Bool
 goes_whole table x at removed run = nat_le (at + removed) run.anchor && begins_pair table x run.anchor
 
--- The right part of a run: the whole of it, moved; or what lies behind the first safe pair of the new text behind the edit; or
--- nothing, where no pair is near.
+-- The right part of a run: the whole of it, moved; or what lies after the first safe pair of the new text after the edit; or nothing, where no pair is near.
 pub data IsRightPart (table : Table) (x y : List ℕ) (at removed inserted : ℕ) (run : Run) : Run → Type 0 where
   Whole : goes_whole table x at removed run ≡ true → IsRightPart table x y at removed inserted run (moved_run at removed inserted run)
   Behind : (q : ℕ) → goes_whole table x at removed run ≡ false → IsFirstPair table y (at + inserted) q → IsRightPart table x y at removed inserted run

@@ -36,7 +36,7 @@ pub record IsExtendedBy (earlier later : Run) : Type 0 where
 abbrev pub NoneIsExtended : Run → List Run → Type 0
 NoneIsExtended first runs = AllByRecursion (λ run. ¬ IsExtendedBy run first) runs
 
--- What is kept behind the first run is what was kept before, but for at most one run that is missing: one that the first run extends
+-- What is kept after the first run is what was kept before, but for at most one run that is missing: one that the first run extends
 -- (a run that is only used is extended by no entry), or, where 16 were kept and none is extended, the last. None is missing where none
 -- is extended and there was room.
 pub data AreLeft (first : Run) : List Run → List Run → Type 0 where
@@ -45,8 +45,7 @@ pub data AreLeft (first : Run) : List Run → List Run → Type 0 where
   Dropped : (before : List Run) (missing : Run) → length before + 1 ≡ most_runs → NoneIsExtended first (before ++ missing ∷ []) →
       AreLeft first (before ++ missing ∷ []) before
 
--- Each entry has the least reach that is allowed after one that reaches so far: as far as that one, and as the searches from the anchor
--- up to the entry look.
+-- Each entry has the least reach that is allowed after one that reaches so far: as far as that one, and as the searches from the anchor up to the entry look.
 abbrev pub HaveLeastReaches : Table → List ℕ → ℕ → ℕ → List Entry → Type 0
 HaveLeastReaches table x anchor reach [] = Unit {0}
 HaveLeastReaches table x anchor reach (entry ∷ entries) =
@@ -79,8 +78,7 @@ pub record HasLeastReaches (table : Table) (x : List ℕ) (former : List Run) (r
   pub cut : ℕ
   pub are_last : run.entries ≡ drop cut (known ++ found)
 
--- What is kept after an answer: a first run that shows it, whose new entries have the least reaches, and what is left of the runs
--- that were kept before.
+-- What is kept after an answer: a first run that shows it, whose new entries have the least reaches, and what is left of the runs that were kept before.
 pub record Keeps (table : Table) (x : List ℕ) (Shows : Run → Type 0) (former now : List Run) : Type 0 where
   pub first : Run
   pub rest : List Run
@@ -89,8 +87,7 @@ pub record Keeps (table : Table) (x : List ℕ) (Shows : Run → Type 0) (former
   pub reaches : HasLeastReaches table x former first
   pub left : AreLeft first former rest
 
--- What is kept after the last boundary before a place was answered: as after each answer, but that the runs may stay as they were
--- where it is 0.
+-- What is kept after the last boundary before a place was answered: as after each answer, but that the runs may stay as they were where it is 0.
 abbrev pub KeepsBack : Table → List ℕ → ℕ → Entry → List Run → List Run → Type 0
 KeepsBack table x i entry former now =
     Keeps table x (λ run. IsShownBefore x run i entry) former now ⊎ ((entry.at ≡ 0) × (now ≡ former))

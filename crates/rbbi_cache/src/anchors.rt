@@ -7,11 +7,10 @@ use rbbi_table::Table;
 use rbbi_text::{Chars, Steps};
 use std::sync::ledger::Ledger;
 
-/// How many places behind an edit are looked at for a safe pair.
+/// How many places after an edit are looked at for a safe pair.
 const PAIR_PLACES: u32 = 1024;
 
-/// The greatest anchor below a place of the text, or the low place where none lies past it. It
-/// reads the characters from the answer up to the place, each once.
+/// The greatest anchor below a place of the text, or the low place if none lies past it.
 pub(crate) fn anchor_before<T: Chars, L: Ledger>(
     table: &Table,
     text: &T,

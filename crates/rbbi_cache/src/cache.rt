@@ -29,8 +29,7 @@ const START: Entry = Entry {
     reach: 0,
 };
 
-/// Boundaries of one text by one table, kept in at most 16 runs. All memory is taken when it is
-/// made.
+/// Boundaries of one text by one table, in at most 16 runs. It takes memory only when it is made.
 #[derive(Debug, Drop)]
 pub struct Cache {
     pub(crate) runs: RunList,
@@ -156,8 +155,7 @@ impl Cache {
         Some(self.find_back(table, text, i, steps))
     }
 
-    /// Searches for the first boundary past `i`, from the greatest anchor below `i` or from the
-    /// last entry of a kept run, and keeps what it finds.
+    /// Searches for the first boundary past `i`, and keeps what it finds.
     fn find_past<T: Chars, L: Ledger>(
         &mut self,
         table: &Table,
@@ -214,8 +212,7 @@ impl Cache {
         entry
     }
 
-    /// Goes on from the last entry of a kept run, with no anchor between that and `i`, and keeps
-    /// what it finds.
+    /// Goes on from the last entry of a kept run, with no anchor between that and `i`.
     fn find_on<T: Chars, L: Ledger>(
         &mut self,
         table: &Table,

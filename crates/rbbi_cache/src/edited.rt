@@ -17,7 +17,7 @@ use rbbi_text::{Chars, Steps};
 use std::mem;
 use std::sync::ledger::Ledger;
 
-/// Puts the left part of a run behind those that are there, unless it has no entry or 16 are there.
+/// Adds the left part of a run, unless it has no entry or 16 are there.
 fn add_left(run: &Run, edit: Edit, next: &mut [Run], count: usize) -> usize
     requires movable { IsMovable run.now }
     requires room { length next.old ≡ 16 }
@@ -35,8 +35,7 @@ fn add_left(run: &Run, edit: Edit, next: &mut [Run], count: usize) -> usize
     if part.len() == 0 { count } else { count + 1 }
 }
 
-/// Puts the right part of a run behind those that are there, unless it has no entry or 16 are
-/// there.
+/// Adds the right part of a run, unless it has no entry or 16 are there.
 fn add_right(run: &Run, edit: Edit, pair: Option<u32>, next: &mut [Run], count: usize) -> usize
     requires movable { IsMovable run.now }
     requires within { edit.at + edit.removed ≤ most_characters }
@@ -57,8 +56,7 @@ fn add_right(run: &Run, edit: Edit, pair: Option<u32>, next: &mut [Run], count: 
     if part.len() == 0 { count } else { count + 1 }
 }
 
-/// Fills the slots with the parts that an edit leaves of the kept runs, and answers how many there
-/// are. It is given the text after the edit, and reads at most 1,025 characters of it.
+/// Fills the slots with the parts that an edit leaves of the kept runs, and gives their number.
 pub(crate) fn keep_edited<T: Chars, L: Ledger>(
     table: &Table,
     text: &T,
@@ -116,7 +114,7 @@ impl Cache {
     /// edit.
     ///
     /// Each run is replaced by what was found by searches that looked at nothing from the edit on,
-    /// and by what lies behind the edit and doesn't depend on it; the first 16 of these are kept.
+    /// and by what lies after the edit and doesn't depend on it; the first 16 of these are kept.
     /// So a question far from the edit is still answered by a kept run. It reads at most 1,026
     /// characters and takes no memory.
     pub fn edited<T: Chars, L: Ledger>(

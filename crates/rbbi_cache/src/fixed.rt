@@ -3,8 +3,7 @@ ghost use Rattle.std.specs.Prelude.{◌≡◌, ◌<◌, slice_index_or, vec_len}
 ghost use Rattle.std.specs.Borrow.{sem};
 ghost use Rattle.rbbi_cache.specs.inner.Fixed.{LendsItem, LendsItems};
 
-/// A list of fixed length. It lends its items, and neither the list that has them nor the allocator
-/// of that. So what has such lists and no allocator takes no memory.
+/// A list of fixed length. It lends its items, and no allocator: so its owner takes no memory.
 #[derive(Debug, Drop)]
 pub(crate) struct Fixed<T> {
     items: Vec<T>,

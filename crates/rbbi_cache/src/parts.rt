@@ -35,7 +35,7 @@ fn count_reaching(entries: &[Entry], place: u32) -> usize
     entries.len()
 }
 
-/// Begins a run anew at an anchor, with no entries.
+/// Begins a run again at an anchor, with no entries.
 fn restart(run: &mut Run, anchor: u32, leads: bool)
     ensures { run.new ≡ record { anchor = anchor; entries = []; leads = leads } }
 {
@@ -45,8 +45,7 @@ fn restart(run: &mut Run, anchor: u32, leads: bool)
     }
 }
 
-/// Adds the entries, moved by an edit before them, and leaves out those that then lie before a
-/// place.
+/// Adds the entries, moved by an edit before them, but for those that then lie before a place.
 fn append_moved(run: &mut Run, entries: &[Entry], edit: Edit, first: u32)
     requires can_move { AllByRecursion (CanMove edit.removed) entries.now }
     requires small { edit.inserted ≤ most_characters }
@@ -69,8 +68,7 @@ fn append_moved(run: &mut Run, entries: &[Entry], edit: Edit, first: u32)
     }
 }
 
-/// Copies the left part of a kept run: the entries that were found by searches that read nothing
-/// from the edit on.
+/// Copies the left part of a kept run.
 pub(crate) fn copy_left(run: &Run, edit: Edit, part: &mut Run)
     requires { IsMovable run.now }
     ensures { part.new ≡ left_part edit.at run.now }
@@ -80,7 +78,7 @@ pub(crate) fn copy_left(run: &Run, edit: Edit, part: &mut Run)
     part.append(&run.entries()[..left]);
 }
 
-/// Copies the whole of a kept run that lies behind the edit, moved.
+/// Copies the whole of a kept run that lies after the edit, moved.
 fn copy_moved(run: &Run, edit: Edit, part: &mut Run)
     requires movable { IsMovable run.now }
     requires behind { edit.at + edit.removed ≤ run.now.anchor }
@@ -99,7 +97,7 @@ fn copy_moved(run: &Run, edit: Edit, part: &mut Run)
     append_moved(part, &run.entries()[left..], edit, first);
 }
 
-/// Copies the entries that lie behind a safe pair of the new text, moved.
+/// Copies the entries that lie after a safe pair of the new text, moved.
 fn copy_behind(run: &Run, edit: Edit, pair: u32, part: &mut Run)
     requires movable { IsMovable run.now }
     requires within { edit.at + edit.removed ≤ most_characters }
@@ -112,8 +110,7 @@ fn copy_behind(run: &Run, edit: Edit, pair: u32, part: &mut Run)
     append_moved(part, &run.entries()[before..], edit, pair + 2);
 }
 
-/// Whether a run is moved whole. A safe pair begins at each anchor but 0; whether one begins at 0
-/// is told by the first one that was found.
+/// Whether a run is moved whole. A safe pair begins at each anchor but maybe 0.
 fn goes_whole(run: &Run, edit: Edit, pair: Option<u32>) -> bool
     requires within { edit.at + edit.removed ≤ most_characters }
     requires small { edit.at + edit.inserted ≤ most_characters }
@@ -131,7 +128,7 @@ fn goes_whole(run: &Run, edit: Edit, pair: Option<u32>) -> bool
     }
 }
 
-/// Copies the right part of a kept run, by the first safe pair of the new text behind the edit.
+/// Copies the right part of a kept run, by the first safe pair after the edit.
 pub(crate) fn copy_right(run: &Run, edit: Edit, pair: Option<u32>, part: &mut Run)
     requires movable { IsMovable run.now }
     requires within { edit.at + edit.removed ≤ most_characters }

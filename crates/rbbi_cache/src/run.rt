@@ -1,4 +1,4 @@
-//! Kept runs: boundaries in a row that were found from one anchor.
+//! Kept runs: consecutive boundaries that were found from one anchor.
 ghost use Rattle.std.specs.Prelude.{◌≡◌, ◌+◌, ◌<◌, ◌≤◌, ◌++◌, [], ◌∷◌, true, false, length, drop};
 ghost use Rattle.std.specs.Prelude.{IfOk, if◌then◌else◌, ◌==◌};
 ghost use Rattle.rbbi_model.specs.Runs as model;
@@ -15,8 +15,7 @@ pub const MOST_ENTRIES: usize = 256;
 /// How many of the last entries a full run keeps when it goes on.
 const KEPT_ENTRIES: usize = 128;
 
-/// Boundaries in a row that were found by searching from one anchor. Its entries stand in a list
-/// that is as long as it may get, so that none takes memory.
+/// Consecutive boundaries that were found from one anchor, in a list as long as it may get.
 #[derive(Debug, Drop)]
 pub struct Run {
     anchor: u32,
@@ -73,7 +72,7 @@ impl Run {
         &self.slots.as_slice()[..self.len]
     }
 
-    /// Begins anew at an anchor, with no entries.
+    /// Begins again at an anchor, with no entries.
     pub(crate) fn begin(&mut self, anchor: u32)
         ensures { self.new ≡ record { anchor = anchor; entries = []; leads = true } }
     {
@@ -96,8 +95,7 @@ impl Run {
         self.len = len + 1;
     }
 
-    /// Whether it leads: nothing found from its anchor lies between the low place and the first
-    /// entry.
+    /// Whether nothing found from its anchor lies between the low place and the first entry.
     pub(crate) fn leads(&self) -> bool
         ensures { result ≡ self.now.leads }
     {

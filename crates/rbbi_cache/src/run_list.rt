@@ -73,8 +73,8 @@ impl RunList {
         to_front(self.slots.as_mut_slice(), k);
     }
 
-    /// Puts a new run before the others, in place of one that it extends. If it extends none of 16,
-    /// the last one goes. The new run's slot is left with another run, whose content isn't said.
+    /// Puts a new run first, in place of one that it extends, or of the last of 16. The slot that
+    /// is passed has some other run then.
     pub(crate) fn add(&mut self, run: &mut Run)
         requires { IsRising (map (λ entry. entry.at) run.old.entries) }
         ensures { IsPutFirst run.old self.old self.new }
@@ -98,8 +98,7 @@ impl RunList {
         self.move_to_front(k);
     }
 
-    /// Goes on from the last entry of the run with this number. What is found is added to the run
-    /// or makes a run of its own.
+    /// Goes on from the last entry of the run with this number.
     pub(crate) fn go_on<T: Chars, L: Ledger>(
         &mut self,
         k: usize,

@@ -21,7 +21,7 @@ pub(crate) struct Shown {
     pub(crate) entry: Entry,
 }
 
-/// The first run that shows the first boundary past `i`, with that boundary.
+/// The first run that shows the first boundary past `i`.
 pub(crate) fn find_after(runs: &[Run], i: u32) -> Option<Shown>
     requires ordered { AllByRecursion (IsOrdered most_characters) runs.now }
     requires small { i < most_characters }
@@ -36,8 +36,7 @@ pub(crate) fn find_after(runs: &[Run], i: u32) -> Option<Shown>
     None
 }
 
-/// The first run that shows the last boundary before `i` in a text of this length, with that
-/// boundary.
+/// The first run that shows the last boundary before `i` in a text of this length.
 pub(crate) fn find_before(runs: &[Run], len: u32, i: u32) -> Option<Shown>
     requires ordered { AllByRecursion (IsOrdered len) runs.now }
     requires some { 0 < i }
@@ -53,8 +52,7 @@ pub(crate) fn find_before(runs: &[Run], len: u32, i: u32) -> Option<Shown>
     None
 }
 
-/// A run whose last entry isn't past `i`, from which searches can go on. Of several it takes the
-/// one whose last entry is greatest, so that the least is read; no caller rests on which it is.
+/// The run with the greatest last entry that isn't past `i`; no caller rests on which it is.
 pub(crate) fn find_nearest(runs: &[Run], i: u32) -> Option<Shown>
     ensures { MatchOption result ⊤ (λ shown. HasAt runs.now shown.run (GoesOnFrom i shown.entry)) }
 {
@@ -83,8 +81,7 @@ pub(crate) fn to_front(runs: &mut [Run], k: usize)
     first.rotate_right(1);
 }
 
-/// Puts a new run before those that are kept, of which there are `count`. Where 16 are kept, the
-/// last one goes. What was in the last place comes back in the new run's place.
+/// Puts a new run before the `count` that are kept, and takes the last of 16 in exchange.
 pub(crate) fn put_first(runs: &mut [Run], count: usize, run: &mut Run) -> usize
     requires room { length runs.old ≡ 16 }
     requires count { count ≤ 16 }

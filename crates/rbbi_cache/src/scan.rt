@@ -17,8 +17,8 @@ pub(crate) fn low(anchor: u32) -> u32
     if anchor == 0 { 1 } else { anchor + 2 }
 }
 
-/// Searches on from an entry of the run, or from its anchor, until a place past `i` is found, and
-/// adds what is found to the run. `i` lies within the text. The answer is the last place found.
+/// Searches on from an entry of the run, or from its anchor, until a place past `i` is found, which
+/// it gives, and adds what is found to the run.
 pub(crate) fn scan<T: Chars, L: Ledger>(
     table: &Table,
     text: &T,

@@ -15,8 +15,7 @@ use std::sync::ledger::Ledger;
 /// The most entries of a run and a copy of the one from which others were found.
 const MOST_WITH_COPY: usize = 257;
 
-/// Searches from the greatest anchor below `i` up to the first boundary past `i`, which it answers,
-/// and makes a run of what is found.
+/// Searches from the greatest anchor below `i` up to the first boundary past `i`, and makes a run.
 pub(crate) fn search<T: Chars, L: Ledger>(
     table: &Table,
     text: &T,
@@ -47,9 +46,8 @@ pub(crate) fn search<T: Chars, L: Ledger>(
     scan(table, text, run, from, i, marks, steps)
 }
 
-/// Goes on from the last entry of a true run, if no anchor lies between that and `i`. What is found
-/// is added to the run if it has room for all, and then the answer is true; otherwise it makes a
-/// run of its own, which begins with a copy of that entry.
+/// Goes on from the last entry of a true run. What is found is added to the run if it has room for
+/// all (true), and otherwise makes a run of its own, which begins with a copy of that entry.
 pub(crate) fn go_on<T: Chars, L: Ledger>(
     table: &Table,
     text: &T,

@@ -15,9 +15,8 @@ use rbbi_table::{FrontPlaces, Table};
 use rbbi_text::{Chars, Steps};
 use std::sync::ledger::Ledger;
 
-/// Searches for the last boundary before `i`, which lies within the text, or None if it is the
-/// start. The first try begins at the greatest anchor at least three characters back, each further
-/// one at least twice as far back as the one before. The run is then one that shows the answer.
+/// Searches for the last boundary before `i`, or None if it is the start. The first try begins at
+/// the greatest anchor three characters back or more, each further one at least twice as far back.
 pub(crate) fn search_back<T: Chars, L: Ledger>(
     table: &Table,
     text: &T,
@@ -52,8 +51,7 @@ pub(crate) fn search_back<T: Chars, L: Ledger>(
     }
 }
 
-/// Searches from an anchor before `i` for the last boundary before `i` that lies two characters
-/// past the anchor or more, and makes a run of what is found.
+/// Searches from an anchor for the last boundary before `i` two characters past it or more.
 fn search_from<T: Chars, L: Ledger>(
     table: &Table,
     text: &T,

@@ -66,8 +66,7 @@ impl Run {
         None
     }
 
-    /// The entry of the run that is shown to be the last boundary before `i`, in a text of this
-    /// length.
+    /// The entry that is shown to be the last boundary before `i`, in a text of this length.
     pub(crate) fn shown_before(&self, len: u32, i: u32) -> Option<Entry>
         requires rising { IsRising (map (λ entry. entry.at) self.now.entries) }
         requires within { AllByRecursion (λ entry. entry.at ≤ len) self.now.entries }

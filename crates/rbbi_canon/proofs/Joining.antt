@@ -41,7 +41,7 @@ rises ranges j (suc i) apart less short =
     ⊎_elim (λ same. subst (λ n. start_of ranges n < start_of ranges (suc i)) (sym same) next)
     (λ other. omega (arith, next, rises ranges j i apart (omega (arith, less, other)) (omega (arith, short)))) (cases_eq j i)
 
--- a range behind others that have another category last
+-- a range after others that have another category last
 apart_push : (made : List CategoryRange) (new : CategoryRange) → AreApart made → AllByRecursion (λ (range : CategoryRange). range.start < new.start) made →
     ¬ EndsIn made new.category → AreApart (made ++ new ∷ [])
 apart_push [] new apart below other = tt
@@ -124,7 +124,7 @@ module _ (count : ℕ) (ranges : List CategoryRange) (found : List ℕ) (valid :
         ))
         (grown.only k k_low)
 
-    -- the category of a code point, before the range's start and behind it
+    -- the category of a code point, before the range's start and after it
     category : (made' : List CategoryRange) → ((c : ℕ) → c < range.start → category_of made' c ≡ category_of made c) →
         ((c : ℕ) → range.start ≤ c → category_of made' c ≡ n) →
         (c : ℕ) → (category_of made' c < length more) × (get_or more (category_of made' c) 0 ≡ get_or found (category_of (take (i + 1) ranges) c) 0)

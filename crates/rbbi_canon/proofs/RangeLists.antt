@@ -15,7 +15,7 @@ goes_on before c range ranges starts = cond-true (leb range.start c) (category_f
 ends : (before c : ℕ) (range : CategoryRange) (ranges : List CategoryRange) → c < range.start → category_from before (range ∷ ranges) c ≡ before
 ends before c range ranges starts = cond-false (leb range.start c) (category_from range.category ranges c) before (lt-leb range.start c starts)
 
--- behind ranges of one start, the next range's start gives its category
+-- after ranges of one start, the next range's start gives its category
 abbrev Agree : ℕ → List CategoryRange → List CategoryRange → ℕ → Type 0
 Agree category these those low =
     (c : ℕ) → low ≤ c → IsCodePoint c → category_from category these c ≡ category_from category those c

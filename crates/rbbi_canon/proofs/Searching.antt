@@ -257,7 +257,7 @@ module _ (these those : Table) (valid : IsValidTable these) (valid' : IsValidTab
     abbrev Rows : ℕ
     Rows = length these.rows
 
-    -- what is given by the one table's rows, and behind them by the other's
+    -- what is given by the one table's rows, and after them by the other's
     abbrev joint : (ℕ → List ℕ) → (ℕ → List ℕ) → ℕ → List ℕ
     joint f g n = cond (ltb n Rows) (f n) (g (n - Rows))
 

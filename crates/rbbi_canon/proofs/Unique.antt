@@ -99,7 +99,7 @@ module _ (S A : Table) (a : IsCanonical S A) where
       (cases_eq that 1)
 
 module _ (S T A B : Table) (a : IsCanonical S A) (b : IsCanonical T B) (same : SameAfterWords A B) where
-  -- tables of two rows have no marks, and so no more rows are told apart
+  -- tables of two rows have no marks, and so no more rows are distinguished
   pub few_rows : length A.rows ≡ 2 → length B.rows ≡ 2
   few_rows few =
       ⊎_elim (λ more. absurd (apart more)) (λ least. omega (arith, least, b.valid.rows.some)) (cases_lt 2 (length B.rows))

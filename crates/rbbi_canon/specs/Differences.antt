@@ -1,4 +1,4 @@
--- What tells two tables apart.
+-- What distinguishes two tables.
 use Rattle.std.specs.Prelude.{◌≢◌, ℕ, List, []}
 use Rattle.rbbi_model.specs.Words.{IsText}
 use Rattle.rbbi_model.specs.Tables.{Table, row_after}

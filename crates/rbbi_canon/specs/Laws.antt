@@ -1,4 +1,4 @@
--- What canonical tables tell of marks.
+-- Canonical tables and marks.
 use Rattle.std.specs.Prelude.{◌≡◌, ◌↔◌}
 use Rattle.rbbi_model.specs.Tables.{Table}
 use Rattle.rbbi_model.specs.ValidTables.{IsValidTable}

@@ -19,7 +19,7 @@ pub(crate) struct Joined {
     pub ranges: Vec<RangeRow>,
 }
 
-/// Adds a range behind others, unless the last of them has the same category.
+/// Adds a range after others, unless the last of them has the same category.
 fn add_range(ranges: &mut Vec<RangeRow>, range: RangeRow) -> Result<(), AllocError>
     ensures { OnOk result (AddsRange ranges.old.items range ranges.new.items) }
 {

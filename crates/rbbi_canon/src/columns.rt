@@ -17,8 +17,7 @@ fn read_column(grid: &Grid, category: usize, column: &mut [u64])
     }
 }
 
-/// For each category one by which every row leads to the same row, and the same one for all such
-/// categories. Columns are found again by a hash, and compared whole.
+/// For each category the first one by which every row leads to the same row.
 pub(crate) fn representatives(alloc: Global, grid: &Grid) -> Result<Vec<u16>, AllocError>
     requires { grid.now.width ≤ 1000 }
     ensures { IfOk result (λ found. AreRepresentatives grid.now found.items) }

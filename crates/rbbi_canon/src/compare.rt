@@ -48,8 +48,8 @@ pub fn differ(alloc: Global, these: &Table, those: &Table) -> Result<Option<Word
     Ok(None)
 }
 
-/// Adds the pairs to which the letters lead from a pair, but for those whose rows are joined
-/// already. Answers a text that tells the tables apart if one of them does.
+/// Adds the pairs of rows, not joined yet, to which the letters lead from a pair. Gives a text that
+/// distinguishes the tables if one of them does.
 fn follow(
     alloc: Global,
     these: &Table,

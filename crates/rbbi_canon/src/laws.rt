@@ -1,4 +1,4 @@
-//! What canonical tables tell of marks.
+//! Canonical tables and marks.
 ghost use Rattle.rbbi_canon.specs.Laws.{CanonicalTablesTellMarks};
 
 /// The canonical tables of two tables are the same exactly if both tables have the same marks after

@@ -7,8 +7,7 @@ use crate::union_find::UnionFind;
 use rbbi_table::Table;
 use std::alloc::{AllocError, Global};
 
-/// A character, and its category in each of two tables. It is the least of the characters that have
-/// these two.
+/// The least of the characters with these two categories, one in each of two tables.
 #[derive(Clone, Copy, Debug)]
 pub(crate) struct Letter {
     pub character: char,
@@ -16,8 +15,7 @@ pub(crate) struct Letter {
     pub that: u16,
 }
 
-/// Where the range with this number starts, and past the last range the number past all code
-/// points.
+/// Where the range with this number starts; past the last range 0x110000.
 fn start_of(table: &Table, range: u32) -> u32
     ensures { result ≡ start_or_end table.now.ranges range }
 {
@@ -28,8 +26,7 @@ fn start_of(table: &Table, range: u32) -> u32
     0x11_0000
 }
 
-/// Adds the first character from a start on as a letter, unless the letters connect its categories
-/// already.
+/// Adds the first character from a start on, unless the letters connect its categories already.
 fn add_letter(
     these: &Table,
     those: &Table,

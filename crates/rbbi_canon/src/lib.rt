@@ -1,5 +1,4 @@
-//! Canonical tables: one table for all that have the same marks after every word, and how two
-//! tables differ.
+//! Canonical tables, one for all with the same marks after every word, and how two tables differ.
 #![tactic(auto)]
 
 mod canonize;

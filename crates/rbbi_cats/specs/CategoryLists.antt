@@ -15,7 +15,7 @@ pub record CategoryList : Type 0 where
 abbrev pub IsReadCodePoint : List Rule → ℕ → Type 0
 IsReadCodePoint rules c = IsCodePoint c × IsRead rules c
 
--- there are so many code points that leaves read and that the leaves' sets tell apart, each two of them
+-- there are so many code points that leaves read, each two of which the leaves' sets distinguish
 pub record HasClasses (rules : List Rule) (count : ℕ) : Type 0 where
   pub codes : List ℕ
   pub many : length codes ≡ count

@@ -39,7 +39,7 @@ impl Model for Categories {
 }
 
 /// The categories of the rules: 0 for the code points that no leaf reads, and one for each class of
-/// code points that the leaves' sets don't tell apart, numbered by their least code point
+/// code points that the leaves' sets don't distinguish, numbered by their least code point
 /// (partition refinement; Paige and Tarjan 1987).
 ///
 /// Refuses `TooManyCategories` if there are more than 1,000, category 0 counted.

@@ -1,4 +1,4 @@
-//! Categories: the classes of code points that the sets of the leaves don't tell apart.
+//! Categories: the classes of code points that the sets of the leaves don't distinguish.
 #![tactic(auto)]
 
 mod categories;

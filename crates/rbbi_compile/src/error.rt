@@ -48,7 +48,7 @@ impl CompileErr {
     }
 
     /// The place of the fault in the text, in characters from 0. A limit that the rules pass as a
-    /// whole has none, nor has want of memory.
+    /// whole has none, nor has `Memory`.
     pub fn place(&self) -> Option<u32>
         ensures { result ≡ place_of self.now }
     {

@@ -56,7 +56,7 @@ fn statements_of(alloc: Global, text: &str) -> Result<Statements, CompileErr>
 /// a variable like others.
 ///
 /// The text has at most 100,663,296 bytes. Refuses the first fault of its tokens, its grammar and
-/// its meaning, or want of memory.
+/// its meaning, or `Memory`.
 pub fn read_rules(
     alloc: Global,
     text: &str,

@@ -45,7 +45,7 @@ fn table_of(alloc: Global, rules: &Rules) -> Result<Table, CompileErr>
 /// holds, `$dictionary` is a variable like others.
 ///
 /// The text has at most 100,663,296 bytes. Refuses the first fault of its tokens, its grammar and
-/// its meaning, then of the number of categories and the size of the table; or want of memory.
+/// its meaning, then of the number of categories and the size of the table; or `Memory`.
 pub fn compile(
     alloc: Global,
     text: &str,

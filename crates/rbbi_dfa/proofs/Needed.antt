@@ -35,7 +35,7 @@ module _ (automaton : Table) (classes firsts : List ℕ) (determined : IsDetermi
       (λ (g : 2 ≤ row). omega (arith, partition.rows))
       (cases_lt row 2)
 
-  -- the first rows of the classes but class 0 are told apart
+  -- the first rows of the classes but class 0 are distinguished
   pub NeedsRows-from_classes : (count : ℕ) → 2 ≤ count → count < length firsts → NeedsRows automaton count
   NeedsRows-from_classes count two many =
       let rows = take count (drop 1 firsts) in

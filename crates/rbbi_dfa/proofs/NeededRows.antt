@@ -84,7 +84,7 @@ module _ (table : Table) (rules : List Rule) (has : HasRows table) (same : HasSa
         let w = word_of way.0 way.1 in
         (w.0, (w.1.0, ap (λ categories. row_along table 1 categories) w.1.1 ∙ way.2))
 
-    -- a row is told apart from row 0, where nothing ever ends
+    -- a row is distinguished from row 0, where nothing ever ends
     pub leads_on : (row : ℕ) → 2 ≤ row → row < length table.rows → LeadsToMarks table row
     leads_on row two h =
         let apart = least.apart 0 row (omega (arith, two)) h (λ e. absurd (omega (arith, e.1, two))) in (
@@ -93,7 +93,7 @@ module _ (table : Table) (rules : List Rule) (has : HasRows table) (same : HasSa
           λ none. apart.2 (ap (λ row. marks_of table row) (stop_along table has.stop_leads apart.0 apart.1) ∙ plain_marks 0 has.stop ∙ sym none),
         )
 
-    -- words that lead to rows 1 to count are told apart, and lead somewhere
+    -- words that lead to rows 1 to count are distinguished, and lead somewhere
     pub needs_from_rows : (count : ℕ) → 2 ≤ count → count < length table.rows → Needs rules count
     needs_from_rows count two many =
         Needs-from_words rules table table.ranges rows_of_words count (λ i. i + 1)

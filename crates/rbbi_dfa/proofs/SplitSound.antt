@@ -9,7 +9,7 @@ use Rattle.rbbi_dfa.specs.inner.Automata.{IsDetermined}
 use Rattle.rbbi_dfa.specs.inner.Partitions.{IsPartition, IsToldApart, AreSides, LeavesClass, leads_inside}
 use Rattle.rbbi_dfa.proofs.Splits.{IsMoved, IsSplitUpTo, IsSplitUpTo-same}
 
--- rows that lead by one category to rows that are told apart are told apart
+-- rows that lead by one category to rows that are distinguished are distinguished
 pub IsToldApart-step : (automaton : Table) (this that category : ℕ) → category < automaton.categories → IsToldApart automaton (step automaton this category)
     (step automaton that category) → IsToldApart automaton this that
 IsToldApart-step automaton this that category h apart = (category ∷ apart.0, (h, apart.1), apart.2)

@@ -85,7 +85,7 @@ module _ (rules : List Rule) (lawful : AreLawful rules) (x : List ℕ) where
       (cases_lt q chained.m))
       ends.front
 
-  -- nothing ends behind a surrogate
+  -- nothing ends after a surrogate
   module _ (q : ℕ) (low : q < length x) (surrogate : IsSurrogate (get_or x q 0)) where
     no_end : (number : ℕ) → EndsAt rules x 0 (length x) number → ⊥
     no_end number ends = (ends_text (length x) number ends q low).1 surrogate

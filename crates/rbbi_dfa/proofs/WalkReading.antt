@@ -1,4 +1,4 @@
--- How first, last and following positions are told by the words that rules begin to read: by exchanging spelled lists behind a
+-- How first, last and following positions are told by the words that rules begin to read: by exchanging spelled lists after a
 -- position that they have in common.
 use Rattle.std.proofs.Common.{◌≡◌, ◌≢◌, ℕ, zero, suc, ◌+◌, ◌-◌, List, [], ◌∷◌, ◌++◌, Option, Some, None, length, take, sym, refl, ap, ◌∙◌, subst}
 use Rattle.std.proofs.Common.{append_assoc, arith}

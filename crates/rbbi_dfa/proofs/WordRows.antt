@@ -63,7 +63,7 @@ module _ (rules : List Rule) (table : Table) (ranges : List CategoryRange) (has 
       ap (λ r. marks_of table r)
       (ap (λ r. row_along table r way) (sym at) ∙ ap (λ l. row_along table (row_of table ranges w) l) (sym rest.1.1) ∙ sym (row_of-append w rest.0))
 
-  -- Words that lead to rows that are told apart and lead somewhere are told apart and lead somewhere.
+  -- Words that lead to rows that are distinguished and lead somewhere are distinguished and lead somewhere.
   pub Needs-from_words : (count : ℕ) (row : ℕ → ℕ) → ((i : ℕ) → i < count → (w : List ℕ) × (IsWord w × (row_of table ranges w ≡ row i))) →
       ((i j : ℕ) → i < j → j < count → (way : List ℕ) × WordOf ranges way ×
       (marks_of table (row_along table (row i) way) ≢ marks_of table (row_along table (row j) way))) →

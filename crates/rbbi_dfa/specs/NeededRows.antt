@@ -1,4 +1,4 @@
--- The law by which the number of rows of a least table is told by words.
+-- The law by which words determine the number of rows of a least table.
 use Rattle.std.specs.Prelude.{ℕ, ◌<◌, ◌≤◌, ◌↔◌, List, length}
 use Rattle.rbbi_model.specs.Rules.{Rule, AreLawful}
 use Rattle.rbbi_model.specs.Tables.{Table, head_of, step}
@@ -21,8 +21,7 @@ pub record HasRows (table : Table) : Type 0 where
 abbrev pub ValidTablesHaveRows : Type 0
 ValidTablesHaveRows = (table : Table) → IsValidTable table → HasRows table
 
--- A least table for the rules, with any number of rows, has more than so many exactly where there are so many words, each two told
--- apart, and each of which leads somewhere.
+-- A least table for the rules has more rows than so many exactly where there are so many words, each two distinguished, that each lead somewhere.
 abbrev pub RowsAreNeeded : Type 0
 RowsAreNeeded =
     (table : Table) (rules : List Rule) (count : ℕ) → AreLawful rules → HasRows table → HasSameMarks table rules → IsLeast table →

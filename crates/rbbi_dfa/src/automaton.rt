@@ -7,8 +7,8 @@ pub(crate) use rbbi_table::RowHead as Head;
 use std::marker::Model;
 
 /// A determinised automaton. Rows are numbered as in a table: row 0 is the stop row, row 1 the
-/// start. Contracts see it as a table that has no ranges and no safe pairs. Rows that can't be told
-/// apart are not merged yet, so there may be more of them than a table has.
+/// start. Contracts see it as a table that has no ranges and no safe pairs. Rows that are
+/// alike are not merged yet, so there may be more of them than a table has.
 #[derive(Drop)]
 pub(crate) struct Automaton {
     /// How many categories there are, category 0 counted.

@@ -45,8 +45,7 @@ fn number_of(alloc: Global, sets: &mut NumberedRows, set: &[u64]) -> Result<usiz
     }
 }
 
-/// Adds the cells of a row from whose positions these candidates may come next, and the sets that
-/// are new. `next` is scratch space.
+/// Adds the cells of a row with these candidates, and the sets that are new. `next` is scratch.
 fn lead_on(
     alloc: Global,
     rows: &Rows,
@@ -174,11 +173,8 @@ pub(crate) fn determinized(alloc: Global, rows: &Rows) -> Result<Automaton, Dete
     })
 }
 
-/// The determinised automaton of the rules that the positions are those of, for the categories that
-/// they read. Clauses hold for any such list of rules.
-///
-/// Refuses `TooManySets` exactly where the rules have more than 16,384 distinct leaf sets that
-/// aren't empty.
+/// The determinised automaton of the rules of these positions, and their refusal. Clauses hold for
+/// any such list of rules.
 pub(crate) fn automaton_of(
     alloc: Global,
     positions: &Positions,

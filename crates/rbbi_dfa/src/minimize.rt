@@ -1,4 +1,4 @@
-//! From an automaton to the classes of rows that can't be told apart.
+//! From an automaton to the classes of rows that can't be distinguished.
 ghost use Rattle.std.specs.Prelude.{◌≡◌, ◌≢◌, ℕ, ◌+◌, ◌<◌, List, length, slice_index, IfOk, OnOk};
 ghost use Rattle.std.specs.Prelude.{MatchOption};
 ghost use Rattle.rbbi_model.specs.Tables.{step};
@@ -51,8 +51,7 @@ pub(crate) fn minimize(
     Ok(None)
 }
 
-/// Splits the class of a row that leads by the category into another class than the first row of
-/// its class does.
+/// Splits the class of a row that leads by the category elsewhere than its class's first row does.
 fn split_off(
     alloc: Global,
     automaton: &Automaton,

@@ -10,12 +10,12 @@ use Rattle.rbbi_file.specs.Fitting.{FitsList, Spell}
 use Rattle.rbbi_file.proofs.Sizes.{length_ranges, length_list, length_rows}
 use Rattle.rbbi_file.proofs.OneTable.{in_order}
 
--- lists end where they begin or behind
+-- lists end where they begin or after
 pub lists_go_on : (bytes : List ℕ) (count at : ℕ) → at ≤ lists_end bytes count at
 lists_go_on bytes zero at = omega arith
 lists_go_on bytes (suc count) at = omega (arith, lists_go_on bytes count (at + 2 + 4 * u16_at bytes at))
 
--- what stands behind the front
+-- what stands after the front
 pub behind : (bytes front rest : List ℕ) (at end : ℕ) → drop at bytes ≡ front ++ rest → at + length front ≡ end → drop end bytes ≡ rest
 behind bytes front rest at end stand long =
     ap (λ (n : ℕ). drop n bytes) (sym long) ∙ sym (drop-drop (length front) at bytes) ∙ ap (λ (l : List ℕ). drop (length front) l) stand

@@ -52,7 +52,7 @@ same_fault bytes one other bad bad' =
 no_bad : (bytes : List ℕ) (t : Table) (error : TableErr) → ReadsTable bytes (Ok t) → SpellBadParts bytes error → ⊥
 no_bad bytes t error reads bad = not_bad bytes bad.parts error bad.spelled bad.bad t reads.0 reads.1
 
--- bytes have one answer, but for want of memory
+-- bytes have one answer, but for running out of memory
 pub one_answer_lem : (bytes : List ℕ) (one other : Result Table FileErr) → ReadsTable bytes one → ReadsTable bytes other
     → one ≢ Err Memory → other ≢ Err Memory → one ≡ other
 one_answer_lem bytes one (Err Memory) reads reads' known known' = absurd (known' refl)

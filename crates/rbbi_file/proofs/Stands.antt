@@ -1,4 +1,4 @@
--- Parts that are read one behind the other.
+-- Parts that are read one after the other.
 use Rattle.std.proofs.Common.{◌≡◌, ℕ, suc, ◌+◌, ◌-◌, ◌*◌, ◌^◌, ◌<◌, ◌≤◌, List, [], ◌∷◌, ◌++◌, length, take, drop, ap, sym, ◌∙◌, subst, arith, length-append}
 use Rattle.std.proofs.Common.{length-drop, append_assoc, append-nil}
 use Rattle.std.specs.List.{AllByRecursion, flat_map}
@@ -11,7 +11,7 @@ use Rattle.rbbi_file.specs.Fitting.{FitsList, FitsHead}
 use Rattle.rbbi_file.specs.inner.Reading.{Stand, AreListsAt, AreCellsAt, AreRowsAt}
 use Rattle.rbbi_file.proofs.Ends.{lists_go_on}
 
--- two parts, one behind the other
+-- two parts, one after the other
 pub stand_both : (bytes these those : List ℕ) (at middle end : ℕ) → Stand bytes these at middle → Stand bytes those middle end
     → Stand bytes (these ++ those) at end
 stand_both bytes these those at middle end first second =

@@ -15,8 +15,7 @@ use Rattle.rbbi_file.specs.Fitting.{Spell}
 abbrev pub HasTablesOf : ℕ → Table → Type 0
 HasTablesOf version parts = version ≡ 1 → parts.categories ≤ 255
 
--- The first of the parts that isn't valid: the ranges where the version has no tables of so many categories, and otherwise that which
--- makes no table.
+-- The first of the parts that isn't valid: the ranges where the version has no tables of so many categories, and otherwise that which makes no table.
 abbrev pub IsFirstBad : ℕ → Table → TableErr → Type 0
 IsFirstBad version parts error =
     (¬ HasTablesOf version parts × (error ≡ table.BadRanges)) ⊎ (HasTablesOf version parts × MakesTable parts (Err error) × (error ≢ table.Memory))
@@ -27,7 +26,7 @@ pub record SpellBadParts (bytes : List ℕ) (error : TableErr) : Type 0 where
   pub spelled : Spell bytes parts
   pub bad : IsFirstBad (version_in bytes) parts error
 
--- The table that the bytes spell, or the first fault. Want of memory tells nothing.
+-- The table that the bytes spell, or the first fault. `Memory` says nothing of the bytes.
 abbrev pub ReadsTable : List ℕ → Result Table FileErr → Type 0
 ReadsTable bytes (Ok table) = IsValidTable table × IsSpelling bytes table
 ReadsTable bytes (Err BadMagic) = ¬ HasMagic bytes

@@ -7,7 +7,7 @@ use Rattle.rbbi_file.specs.declared.error.FileErr.{FileErr}
 use Rattle.rbbi_file.specs.declared.error.FileErr.TheVariants.{Memory}
 use Rattle.rbbi_file.specs.Answers.{ReadsTable}
 
--- bytes have one answer, but for want of memory
+-- bytes have one answer, but for running out of memory
 abbrev pub HaveOneAnswer : Type 0
 HaveOneAnswer =
     (bytes : List ℕ) (one other : Result Table FileErr) → ReadsTable bytes one → ReadsTable bytes other

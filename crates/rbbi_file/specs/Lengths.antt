@@ -35,7 +35,7 @@ rows_size size rows categories = rows * (8 + size * categories)
 abbrev pub pairs_size : ℕ → ℕ
 pairs_size categories = (categories * categories + 7) / 8
 
--- where all parts end: behind the magic and the five counts come ranges of six bytes, the status lists, the rows and the safe pairs
+-- where all parts end: after the magic and the five counts come ranges of six bytes, the status lists, the rows and the safe pairs
 abbrev pub parts_end : List ℕ → ℕ
 parts_end bytes =
     lists_end bytes (u16_at bytes 14) (20 + 6 * u32_at bytes 10) + rows_size (cell_size_in bytes) (u16_at bytes 16) (u16_at bytes 8)

@@ -7,7 +7,7 @@ use rbbi_table::TableErr;
 use std::alloc::AllocError;
 use thiserror::Error;
 
-/// The first fault of a table file, or want of memory. Each place is that of a byte, from 0.
+/// The first fault of a table file, or running out of memory. Each place is that of a byte, from 0.
 #[derive(Debug, Drop, Error)]
 pub enum FileErr {
     /// The first eight bytes aren't there, or aren't those of a table file of either version.
@@ -36,8 +36,7 @@ impl From<AllocError> for FileErr {
 }
 
 impl FileErr {
-    /// The name of the variant; for a part that isn't valid the name of that part's refusal, as
-    /// `BadRanges`.
+    /// The name of the variant, or for a part that isn't valid that of the part's refusal.
     pub fn label(&self) -> &str
         ensures { result.now ≡ label_of self.now }
     {

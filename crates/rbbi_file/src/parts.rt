@@ -51,7 +51,7 @@ fn statuses_at(alloc: Global, bytes: &[u8], at: usize, count: usize) -> Result<V
     Ok(statuses)
 }
 
-/// Reads the status list at a place, which has `count` numbers behind its length.
+/// Reads the status list at a place, which has `count` numbers after its length.
 fn list_at(alloc: Global, bytes: &[u8], at: usize, count: u16) -> Result<NumberList, AllocError>
     requires length { Stand bytes.now (two_bytes count) at (at + 2) }
     requires whole { at + (2 + 4 * count) ≤ length bytes.now }
@@ -119,8 +119,7 @@ fn add_cells(
     Ok(())
 }
 
-/// Reads `count` rows at a place: their heads, and their next rows, one for each category, each in
-/// one or two bytes.
+/// Reads `count` rows at a place: their heads, and their next rows, each in one or two bytes.
 pub(crate) fn rows_at(
     alloc: Global,
     bytes: &[u8],

@@ -20,7 +20,7 @@ use std::alloc::{AllocError, Global};
 /// The most categories that a file of version 1 may have.
 const MOST_CATEGORIES_1: u16 = 255;
 
-/// The five counts behind the magic.
+/// The five counts after the magic.
 #[derive(Clone, Copy)]
 struct Counts {
     categories: u16,

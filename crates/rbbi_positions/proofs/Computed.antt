@@ -68,7 +68,7 @@ ends_is (Either front rest) first position lawful =
 ends_is (Repeat repetition part) first position lawful =
     said (ends_is part first position lawful) (repeat_ends repetition (SpellsPositions part first) position)
 
--- in the tree the next position follows, or it does behind the tree and this one ends the tree
+-- in the tree the next position follows, or it does after the tree and this one ends the tree
 abbrev pub GoesOn : Tree → ℕ → ℕ → ℕ → Bool → Type 0
 GoesOn tree first position next behind = Neighbours (SpellsPositions tree first) position next ⊎ (Ends (SpellsPositions tree first) position × (behind ≡ true))
 

@@ -1,4 +1,4 @@
--- Two lists that a tree spells, with a position in common, may be exchanged behind it: a tree has each position but once.
+-- Two lists that a tree spells, with a position in common, may be exchanged after it: a tree has each position but once.
 use Rattle.std.proofs.Common.{◌≡◌, ℕ, ◌+◌, Option, None, Some, List, [], ◌∷◌, ◌++◌, ap, sym, ◌∙◌, subst, inl, inr, append_assoc, arith, length-append}
 use Rattle.std.specs.Prelude.{MatchOption}
 use Rattle.std.specs.List.{AllByRecursion}
@@ -9,7 +9,7 @@ use Rattle.rbbi_model.proofs.Lists.{all_append, all_left, all_right}
 use Rattle.rbbi_positions.proofs.Splits.{side_of, piece_of, joined-append}
 use Rattle.rbbi_positions.proofs.Spans.{middle_in_span, apart}
 
--- the lists that are spelled, of which two with a position in common may be exchanged behind it
+-- the lists that are spelled, of which two with a position in common may be exchanged after it
 abbrev pub Exchanges : (List ℕ → Type 0) → Type 0
 Exchanges Spelled = (before after sooner later : List ℕ) (x : ℕ) → Spelled (before ++ x ∷ after) → Spelled (sooner ++ x ∷ later) → Spelled (before ++ x ∷ later)
 
@@ -109,7 +109,7 @@ tree_exchange (Either front rest) first before after sooner later x (inr h) (inl
 tree_exchange (Repeat repetition part) first before after sooner later x h g =
     repeat_exchange repetition (SpellsPositions part first) (tree_exchange part first) before after sooner later x h g
 
--- the lists that a front spells, and behind it perhaps a rest
+-- the lists that a front spells, and after it perhaps a rest
 abbrev pub Spelled : Tree → Option Tree → ℕ → List ℕ → Type 0
 Spelled front rest first positions =
     MatchOption rest (SpellsPositions front first positions)

@@ -54,7 +54,7 @@ pub tree_of_all : (sets : List (List Range)) (tree : Tree) (parts : Trees-F Tree
 tree_of_all sets tree parts n is past = ap (tree_of sets) is ∙ tree_of_sequence sets parts
     ∙ ap (λ ts. spelling.sequence_of (map (tree_of sets) ts)) (sym (take_all n parts.items.items past))
 
--- what follows in a repeat is what does in the part, with the next round behind it
+-- what follows in a repeat is what does in the part, with the next round after it
 pub goes_repeat : (quant : Quant) (part : spelling.Tree) (first position next : ℕ) (behind : Bool) →
     goes (repeated quant part) first position next behind ≡ goes part first position next (behind_of quant part first next behind)
 goes_repeat Once part first position next behind = refl

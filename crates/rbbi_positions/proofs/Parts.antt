@@ -61,7 +61,7 @@ empty_snoc (front ∷ parts) part =
     regroup true b d = refl
     regroup false b d = refl
 
--- the first position of a part behind others
+-- the first position of a part after others
 later : (first : ℕ) (front : Tree) (parts : List Tree) →
     (first + leaf_count front) + leaf_count (sequence_of parts) ≡ first + leaf_count (sequence_of (front ∷ parts))
 later first front parts = omega (arith, count_cons front parts)

@@ -12,7 +12,7 @@ use Rattle.rbbi_model.proofs.Lists.{all_append, all_right, all_through}
 use Rattle.rbbi_positions.proofs.Spans.{InSpan, sooner_span, later_span, in_span}
 use Rattle.rbbi_positions.proofs.Exchanges.{Spelled}
 
--- the positions of a later rule come behind those of an earlier
+-- the positions of a later rule come after those of an earlier
 pub first_of_later : (rules : List Rule) (this that : ℕ) (rule : Rule) → IsRule rules this rule → this < that →
     first_position rules this + leaves_of rule ≤ first_position rules that
 first_of_later [] this that rule is before = absurd (cc)

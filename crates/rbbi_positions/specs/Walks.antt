@@ -31,8 +31,7 @@ SpelledAreExchanged =
     (rules : List Rule) (this that position : ℕ) (before after sooner later : List ℕ) → IsSpelled rules this (before ++ position ∷ after) →
     IsSpelled rules that (sooner ++ position ∷ later) → (this ≡ that) × IsSpelled rules this (before ++ position ∷ later)
 
--- Where a list that is spelled and one that a front spells have a position in common, the one up to it and then the other from it
--- on is spelled by the front.
+-- Where a list that is spelled and one that a front spells have a position in common, the one up to it and then the other from it on is spelled by the front.
 abbrev pub FrontsAreExchanged : Type 0
 FrontsAreExchanged =
     (rules : List Rule) (this that position : ℕ) (before after sooner later : List ℕ) → IsSpelled rules this (before ++ position ∷ after) →

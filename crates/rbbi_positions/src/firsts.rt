@@ -42,8 +42,8 @@ pub(crate) fn add_firsts(tree: &Tree, first: usize, row: &mut [u64])
     }
 }
 
-/// Turns the row of the positions that may follow a tree into that of those that may follow what
-/// stands before it: its first positions and, if it is nullable, the row.
+/// Makes of the positions that may follow a tree those that may follow what stands before it: its
+/// first positions and, if it is nullable, the row.
 pub(crate) fn lead(tree: &Tree, first: usize, row: &mut [u64])
     requires short { length row.old ≤ 128 }
     requires within { (sets : List (List Range)) →

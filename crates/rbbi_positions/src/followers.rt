@@ -1,4 +1,4 @@
-//! The positions that follow one another in lists which a tree spells. What may follow behind a
+//! The positions that follow one another in lists which a tree spells. What may follow after a
 //! tree is handed down, so that each row is written once.
 ghost use Rattle.std.specs.Prelude.{◌≡◌, ◌+◌, ◌*◌, ◌<◌, ◌≤◌, ◌||◌, ℕ, List, length, OnOk, IfOk};
 ghost use Rattle.rbbi_model.specs.Ranges.{Range};
@@ -16,8 +16,7 @@ use rbbi_resolve::Tree;
 use rbbi_tree::Quant;
 use std::alloc::{AllocError, Global};
 
-/// Adds to the row of each position of a tree those that follow it, where behind the tree those of
-/// the row `next` may follow.
+/// Adds to the row of each position of a tree those that follow it, if `next` may follow the tree.
 pub(crate) fn add_followers(
     alloc: Global,
     tree: &Tree,
@@ -63,8 +62,7 @@ pub(crate) fn add_followers(
     Ok(())
 }
 
-/// The row of what may stand behind a part that is repeated, where behind its last round that of
-/// `next` may.
+/// The row of what may follow a part that is repeated, if `next` may follow its last round.
 fn behind(
     alloc: Global,
     quant: Quant,

@@ -8,14 +8,13 @@ pub fn spelled_are_of_the_rule()
     ensures { SpelledAreOfTheRule }
 {}
 
-/// Two lists that are spelled, with a position in common, may be exchanged behind it. For each leaf
-/// has a position of its own, so what may come behind it doesn't depend on what came before.
+/// Two lists that are spelled, with a position in common, may be exchanged after it. For each leaf
+/// has a position of its own, so what may come after it doesn't depend on what came before.
 pub fn spelled_are_exchanged()
     ensures { SpelledAreExchanged }
 {}
 
-/// A list that is spelled and one that a front spells, with a position in common, may be exchanged
-/// behind it.
+/// A list that is spelled and one that a front spells may be exchanged after a common position.
 pub fn fronts_are_exchanged()
     ensures { FrontsAreExchanged }
 {}

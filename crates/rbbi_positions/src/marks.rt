@@ -129,7 +129,7 @@ impl Positions {
         self.words
     }
 
-    /// The row of the positions that stand right behind this one in some list that a rule spells.
+    /// The row of the positions that stand right after this one in some list that a rule spells.
     pub fn followers(&self, leaf: u32) -> &[u64]
         requires { leaf < self.now.leaves }
         ensures row { result.now ≡ followers_in self.now leaf }
@@ -173,7 +173,7 @@ impl Positions {
         has(self.front_lasts(), leaf as usize)
     }
 
-    /// Whether the position `then` stands right behind this one in some list that a rule spells.
+    /// Whether the position `then` stands right after this one in some list that a rule spells.
     pub fn follows(&self, leaf: u32, then: u32) -> bool
         requires leaf { leaf < self.now.leaves }
         requires next { then < self.now.leaves }

@@ -64,8 +64,7 @@ fn is_in(division: &Division, classes: &ClassSet, code: u32, class: usize) -> bo
     is_character(code) && is_set(classes.word(class / 64), class % 64)
 }
 
-/// For each category the row of the positions whose sets hold its code point. That of category 0 is
-/// empty.
+/// For each category but 0 the row of the positions whose sets hold its code point.
 pub(crate) fn readers_of(
     alloc: Global,
     sets: &SetList,

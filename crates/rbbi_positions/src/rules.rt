@@ -28,8 +28,7 @@ fn count_of_rule(rule: &Rule) -> usize
     }
 }
 
-/// The row of the positions that some list of a rule begins with. The front of a rule with a rest
-/// isn't empty.
+/// The row of the positions that some list of a rule begins with. A front with a rest isn't empty.
 pub(crate) fn firsts_of(alloc: Global, rules: &Rules, words: usize) -> Result<Vec<u64>, AllocError>
     requires wide { sum_by leaves_of (rules_of rules.now) ≤ 64 * words }
     requires few { words ≤ 128 }
@@ -56,8 +55,7 @@ pub(crate) enum Part {
     Whole,
 }
 
-/// Adds to a row the positions that some list of this part of the rule ends with. A rest isn't
-/// empty.
+/// Adds to a row the positions that some list of this part of the rule ends with.
 fn add_part_lasts(rule: &Rule, part: Part, first: usize, row: &mut [u64])
     requires short { length row.old ≤ 128 }
     requires within { (sets : List (List Range)) →

@@ -1,4 +1,4 @@
--- The property files stay through a rule file.
+-- The property files stay through a rule file, and the variables through a control.
 use Rattle.std.proofs.Common.{◌≡◌, ℕ, Bool, true, false, List, [], ◌∷◌, fold, take, bytes_eq, codes, encode_utf8_all, is_some, if◌then◌else◌, refl, ◌∙◌}
 use Rattle.rbbi_props.specs.Rows.{File}
 use Rattle.rbbi_tree.specs.Trees.{StatementTree, nothing, control, assign, rule}

@@ -16,7 +16,7 @@ use Rattle.rbbi_resolve.specs.Faults.{faults_where, faults_of_parts}
 abbrev pub initial_context : List File → Context
 initial_context files = record { files = files; variables = []; chained = false; quoted_only = false; active = true }
 
--- whether a control, by its bytes, makes the rules behind it inactive
+-- whether a control, by its bytes, makes the rules after it inactive
 abbrev pub ends_active : List ℕ → Bool
 ends_active name = bytes_eq name (codes "reverse") || (bytes_eq name (codes "safe_forward") || bytes_eq name (codes "safe_reverse"))
 
@@ -45,7 +45,7 @@ with_variable context name expr =
     then context
     else record context { variables = record { name = encode_utf8_all name; variable = variable_for context expr } ∷ context.variables }
 
--- what stands behind a statement
+-- what stands after a statement
 abbrev pub context_after : Context → StatementTree → Context
 context_after context nothing = context
 context_after context (control name place) = after_control context (encode_utf8_all name)

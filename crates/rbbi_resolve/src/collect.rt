@@ -122,7 +122,7 @@ fn collect_item(
 }
 
 /// Collects those of a set: of characters and ranges that follow one another one set is made, since
-/// nothing tells them apart here.
+/// nothing distinguishes them here.
 #[cycle(collect_sets)]
 fn collect_set(
     alloc: Global,

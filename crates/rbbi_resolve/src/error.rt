@@ -42,7 +42,7 @@ pub enum ResolveErr {
     /// A `/` before which the empty word may stand; its place.
     #[error("the empty word before the slash at {0}")]
     EmptyFront(u32),
-    /// A `/` behind which the empty word may stand; its place.
+    /// A `/` after which the empty word may stand; its place.
     #[error("the empty word behind the slash at {0}")]
     EmptyRest(u32),
     /// No active rule; the place of the end.

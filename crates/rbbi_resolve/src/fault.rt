@@ -2,7 +2,7 @@
 ghost use Rattle.std.specs.Prelude.{◌≡◌};
 ghost use Rattle.rbbi_resolve.specs.Faults.{rank, noted_one, noted, comes_before, faults_where};
 
-/// The kinds of faults, in the order in which they are told where several stand at one place.
+/// The kinds of faults, in the order in which they are reported where several stand at one place.
 #[derive(Clone, Copy, Debug)]
 pub enum FaultKind {
     UnknownControl,

@@ -40,7 +40,7 @@ impl Question {
 }
 
 /// A text for a property, which all its spellings share: another one for each name, value and sign
-/// that a look-up tells apart.
+/// that a look-up distinguishes.
 pub(crate) fn key_of(
     alloc: Global,
     negated: bool,

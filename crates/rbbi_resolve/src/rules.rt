@@ -39,7 +39,7 @@ pub struct Trees {
 pub struct Rule {
     /// What it matches, up to the `/` if there is one.
     pub front: Tree,
-    /// What it matches behind the `/`.
+    /// What it matches after the `/`.
     pub rest: Option<Tree>,
     /// Whether a match may go on with this rule from its last character on.
     pub chained_into: bool,

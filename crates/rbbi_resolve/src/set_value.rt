@@ -50,7 +50,7 @@ pub(crate) fn value_of_set(
 
 /// Finds the value of a set.
 ///
-/// Values are handed on behind a reference, and what finds the value of a part isn't inlined, so
+/// Values are passed by reference, and what finds the value of a part isn't inlined, so
 /// that the frames of this walk stay small: it goes as deep as brackets are open.
 #[cycle(sets)]
 fn find_set(

@@ -26,7 +26,7 @@ impl Switches {
         }
     }
 
-    /// The switches behind a control.
+    /// The switches after a control.
     pub(crate) fn after(self, name: &str) -> Switches
         ensures { (context : contexts.Context) → AreSwitches self context
             → AreSwitches result (after_control context name.now) }
@@ -59,7 +59,7 @@ impl Switches {
     }
 }
 
-/// Whether a control makes the rules behind it inactive.
+/// Whether a control makes the rules after it inactive.
 fn ends_active(name: &str) -> bool
     ensures { result ≡ files.ends_active name.now }
 {

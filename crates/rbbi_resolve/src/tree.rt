@@ -48,7 +48,7 @@ pub(crate) fn add_no_tree(alloc: Global, trees: &mut Vec<Tree>) -> Result<(), Al
     Ok(())
 }
 
-/// Makes one tree of the trees behind the first ones: they follow one another. One stays as it is.
+/// Makes the trees after the first ones one tree: they follow one another. One stays as it is.
 #[inline(never)]
 pub(crate) fn in_sequence(trees: &mut Vec<Tree>, first: usize) -> Result<(), AllocError>
     requires { first ≤ vec_len trees.old }
@@ -62,7 +62,7 @@ pub(crate) fn in_sequence(trees: &mut Vec<Tree>, first: usize) -> Result<(), All
     Ok(())
 }
 
-/// Makes one tree of the trees behind the first ones: one of them. One stays as it is.
+/// Makes the trees after the first ones one tree: one of them. One stays as it is.
 #[inline(never)]
 pub(crate) fn in_choice(trees: &mut Vec<Tree>, first: usize) -> Result<(), AllocError>
     requires { first ≤ vec_len trees.old }

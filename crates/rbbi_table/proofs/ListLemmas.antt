@@ -34,7 +34,7 @@ valid_where_rise (status ∷ statuses) some few = (
       record { some = some; few = few; rising = parts.0; small = (parts.1, parts.2) },
 )
 
--- each of the lists is valid and comes behind the one before it
+-- each of the lists is valid and comes after the one before it
 abbrev pub ComeOn : List ℕ → List (List ℕ) → Type 0
 ComeOn previous [] = Unit {0}
 ComeOn previous (statuses ∷ lists) = (IsValidList statuses × IsBefore previous statuses) × ComeOn statuses lists

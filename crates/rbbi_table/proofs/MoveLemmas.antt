@@ -71,13 +71,13 @@ module _ (categories : ℕ) (rows : List RowHead) (cells moves : List ℕ) (row 
         accept = keep (r * (categories + 3) + categories + 2) (omega (arith, first.all, room)) ∙ has.accept;
       }
 
-  -- what stands k places behind the rows before
+  -- what stands k places after the rows before
   behind : (k : ℕ) → get_or (moves ++ (moved ++ tail)) (row * (categories + 3) + k) 0 ≡ get_or (moved ++ tail) k 0
   behind k =
       get_or-append_right moves (moved ++ tail) (row * (categories + 3)) (row * (categories + 3) + k) 0 first.all (omega arith)
       ∙ ap (λ n. get_or (moved ++ tail) n 0) (let e : row * (categories + 3) + k - row * (categories + 3) ≡ k = omega arith in e)
 
-  -- what stands k places behind the moves of the row
+  -- what stands k places after the moves of the row
   head_at : (k place : ℕ) → place ≡ row * (categories + 3) + (categories + k) → get_or (moves ++ (moved ++ tail)) place 0 ≡ get_or tail k 0
   head_at k place is =
       ap (λ n. get_or (moves ++ (moved ++ tail)) n 0) is ∙ behind (categories + k)

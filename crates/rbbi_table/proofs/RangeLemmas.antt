@@ -47,7 +47,7 @@ category_held ranges k c apart holds =
     let one : k + 1 ≡ suc k = omega arith in
     held 0 ranges k c apart holds.within holds.begins (λ more. subst (λ m. c < start_of ranges m) one (holds.ends (omega (arith, more))))
 
--- each of the ranges is valid behind the one before it
+-- each of the ranges is valid after the one before it
 abbrev pub GoOn : ℕ → CategoryRange → List CategoryRange → Type 0
 GoOn categories previous [] = Unit {0}
 GoOn categories previous (range ∷ ranges) =
@@ -65,7 +65,7 @@ are_apart categories range (next ∷ ranges) go =
     let rest = are_apart categories next ranges go.1 in
     ((go.0.0, go.0.1, rest.0), (go.0.2, rest.1))
 
--- ranges are valid where the first is, and each behind the one before it
+-- ranges are valid where the first is, and each after the one before it
 pub valid_where_go_on : (categories : ℕ) (ranges : List CategoryRange) → 1 ≤ categories → categories ≤ 1000 → 1 ≤ length ranges →
     (get_or ranges 0 no_range).start ≡ 0 → (get_or ranges 0 no_range).category < categories →
     AreValidRanges categories ranges ↔ GoOn categories (get_or ranges 0 no_range) (drop 1 ranges)

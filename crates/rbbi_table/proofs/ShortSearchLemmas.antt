@@ -52,7 +52,7 @@ pub record IsTurn (table : Table) (x : List ℕ) (s last next end end_row : ℕ)
   pub move : IsMoveTo table x s (suc last) next
   pub ended : IsShortEnd table x s last end end_row
 
--- the same, told by the place behind the character
+-- the same, told by the place after the character
 abbrev pub IsTurnAt : Table → List ℕ → ℕ → ℕ → ℕ → ℕ → ℕ → Type 0
 IsTurnAt table x s at next end end_row = (last : ℕ) × (at ≡ suc last) × IsTurn table x s last next end end_row
 
@@ -92,7 +92,7 @@ ends_now table x s at onward =
     let holds : ends_at table x s at ≡ true = and_from (ltb s at) (eqb (accept_of table (row_at table x s at)) 1) (lt-ltb s at onward.from) onward.ends in
     inr (onward.from, refl, cond-true (ends_at table x s at) (Some at) (greatest_below (ends_at table x s) at) holds)
 
--- the list behind what ended last
+-- the list after what ended last
 end_list : (table : Table) (moves x : List ℕ) (s at end end_row : ℕ) →
     ((r : ℕ) → r < length table.rows → get_or moves (r * short_stride table) 0 ≡ list_of table r) →
     ((z : ℕ) → row_at table x s z < length table.rows) → IsShortEnd table x s at end end_row →
@@ -346,7 +346,7 @@ module _ {table : Table} {numbers kept moves near : List ℕ} (keeps : IsShortKe
         look_is = looks_past table x s (suc last) at_end goes;
       }
 
-  -- the turn behind a stretch
+  -- the turn after a stretch
   pub turn_behind : (end next : ℕ) → IsOnward table x s end → end < length x → IsMoveTo table x s (suc end) next →
       IsTurn table x s end next end (row_at table x s end * short_stride table)
   turn_behind end next onward short move = record {
@@ -357,7 +357,7 @@ module _ {table : Table} {numbers kept moves near : List ℕ} (keeps : IsShortKe
     ended = ends_now table x s end onward;
   }
 
-  -- the turn behind a character at which no rule ends
+  -- the turn after a character at which no rule ends
   pub turn_on : (last next next' end end_row : ℕ) → IsTurn table x s last next end end_row → next % 4 ≡ 3 → next ≢ 3 → suc last < length x →
       IsMoveTo table x s (suc (suc last)) next' → IsTurn table x s (suc last) next' end end_row
   turn_on last next next' end end_row turn kind other short move = record {

@@ -1,4 +1,4 @@
--- What the loop of a search reads: categories, moves, and the heads behind them.
+-- What the loop of a search reads: categories, moves, and the heads after them.
 use Rattle.std.proofs.Common.{◌≡◌, ◌≢◌, ℕ, suc, zero, ◌+◌, ◌-◌, ◌*◌, ◌/◌, ◌%◌, ◌<◌, ◌≤◌, Bool, true, false, cond, ltb, eqb, List, [], ◌∷◌, length}
 use Rattle.std.proofs.Common.{get_or, sym, refl, ap, ◌∙◌, subst, ⊎_elim, arith}
 use Rattle.std.proofs.lemmas.Bool.{cond-true, cond-false, ltb-true, le-leb, lt-leb, eqb-true, eq-eqb, or_parts}
@@ -23,7 +23,7 @@ text_at [] i text short = absurd (omega (arith, short))
 text_at (c ∷ x) zero text short = text.0.0
 text_at (c ∷ x) (suc i) text short = text_at x i text.1 (omega (arith, short))
 
--- what stands behind the moves of a row
+-- what stands after the moves of a row
 pub record IsHead (table : Table) (moves : List ℕ) (r row : ℕ) : Type 0 where
   pub few : length moves ≤ 4095 * 1003
   pub inside : row + table.categories + 2 < length moves
@@ -41,7 +41,7 @@ pub record IsStep (table : Table) (moves x : List ℕ) (s at row category : ℕ)
       (eqb (fronts_of table (row_at table x s (suc at))) 0) (stops table (row_at table x s (suc at)))
   pub head : IsHead table moves (row_at table x s (suc at)) (get_or moves (row + category) 0 / 8)
 
--- the last place at which a rule ended, with what stands behind its row's moves
+-- the last place at which a rule ended, with what stands after its row's moves
 pub record IsEndRead (table : Table) (moves x : List ℕ) (s at end end_row : ℕ) : Type 0 where
   pub ended : IsEnd table x s at end end_row
   pub row : ℕ
@@ -129,7 +129,7 @@ matches_last {table} {moves} {x} {s} {at} {row} {end} {end_row} {places} searche
 
 module _ {table : Table} {numbers kept moves x : List ℕ} {s at row end end_row category : ℕ} {places : List ℕ} (keeps : IsKept table numbers kept moves)
     (searched : IsSearch table x s at row end end_row places) (one : IsStep table moves x s at row category) where
-  -- a rule ends at the place behind the character
+  -- a rule ends at the place after the character
   pub ends_here : {end' end_row' : ℕ} → get_or moves (row + category) 0 % 2 ≡ 1 → end' ≡ at + 1 → end_row' ≡ get_or moves (row + category) 0 / 8 →
       IsEndRead table moves x s (suc at) end' end_row'
   ends_here {end'} {end_row'} is end_is row_is =

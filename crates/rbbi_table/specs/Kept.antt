@@ -18,12 +18,11 @@ stops_at head row = (row == 0) || nat_le 2 head.accept
 abbrev pub move_flags : RowHead → ℕ → ℕ
 move_flags head row = (if head.accept == 1 then 1 else 0) + (if head.fronts == 0 then 0 else 2) + (if stops_at head row then 4 else 0)
 
--- The move to a row: eight times the place at which the row begins, 1 if some rule ends there and no look-ahead rule, 2 if a front
--- ends there, and 4 if a search ends there.
+-- The move to a row: eight times its place, 1 if some rule ends there and no look-ahead rule, 2 if a front ends there, and 4 if a search ends there.
 abbrev pub move_to : Table → ℕ → ℕ
 move_to table row = row * stride table * 8 + move_flags (head_of table row) row
 
--- the moves of the row, one for each category, and behind them its front mask, its list and its accept number
+-- the moves of the row, one for each category, and after them its front mask, its list and its accept number
 pub record HasMoves (table : Table) (moves : List ℕ) (row : ℕ) : Type 0 where
   pub each : (category : ℕ) → category < table.categories → slice_index moves (row * stride table + category) ≡ move_to table (step table row category)
   pub fronts : slice_index moves (row * stride table + table.categories) ≡ fronts_of table row

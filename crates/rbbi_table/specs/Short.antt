@@ -1,5 +1,4 @@
--- What is kept beside a table with no look-ahead rules: its rows in one flat list of numbers of 16 bits, and the categories of the
--- code points of which most texts are.
+-- What is kept beside a table with no look-ahead rules: its rows in one flat list of 16-bit numbers, and the categories of the first code points.
 use Rattle.std.specs.Prelude.{◌≡◌, ℕ, ◌+◌, ◌*◌, ◌/◌, ◌%◌, ◌<◌, ◌≤◌, List, length, slice_index}
 use Rattle.rbbi_model.specs.Tables.{Table, list_of, step}
 use Rattle.rbbi_model.specs.ValidTables.{IsValidTable}
@@ -14,7 +13,7 @@ short_stride table = (table.categories + 4) / 4 * 4
 abbrev pub short_move : Table → List ℕ → ℕ → ℕ → ℕ
 short_move table moves row category = slice_index moves (row * short_stride table + category + 1)
 
--- The row's list, and behind it its moves, one for each category: the place at which the next row begins, and the kind of the move.
+-- The row's list, and after it its moves, one for each category: the place at which the next row begins, and the kind of the move.
 pub record HasShortMoves (table : Table) (moves : List ℕ) (row : ℕ) : Type 0 where
   pub list : slice_index moves (row * short_stride table) ≡ list_of table row
   pub each : (category : ℕ) → category < table.categories →

@@ -40,9 +40,8 @@ fn holder_of(ranges: &[RangeRow], range: usize, c: usize) -> usize
     range
 }
 
-/// Writes the categories of the code points of the block that begins at `first`. `range` is the
-/// number of the range that holds the code point before it, or 0; the answer is that of the range
-/// that holds the block's last one.
+/// Writes the categories of the block that begins at `first`. `range` is the number of the range
+/// that holds the code point before it, or 0; the result is that of the block's last one.
 fn fill(ranges: &[RangeRow], range: usize, first: usize, block: &mut [u16]) -> usize
     requires zero { StartsAtZero ranges.now }
     requires apart { AreApart ranges.now }
@@ -160,8 +159,7 @@ impl Blocks {
         })
     }
 
-    /// The category that the ranges of these blocks give a character: its block's number, then its
-    /// place in the block.
+    /// The category that the ranges of these blocks give a character.
     pub fn category(&self, c: char) -> u16
         requires { (ranges : List CategoryRange)
             × AreBlocks ranges self.now.numbers.items self.now.categories.items }

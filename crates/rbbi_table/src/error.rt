@@ -6,7 +6,7 @@ ghost use Rattle.rbbi_table.specs.Errors.{label_of};
 use std::alloc::AllocError;
 use thiserror::Error;
 
-/// The first part of a table that isn't valid, or want of memory.
+/// The first part of a table that isn't valid, or running out of memory.
 #[derive(Debug, Drop, PartialEq, Eq, Error)]
 pub enum TableErr {
     /// The ranges of the categories aren't valid.

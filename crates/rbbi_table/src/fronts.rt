@@ -12,9 +12,7 @@ use crate::{Parts, RowHead};
 use std::alloc::{AllocError, Global};
 
 /// Whether no row at which look-ahead rule `slash` is completed can be entered from row 1 through
-/// rows at which its front doesn't end.
-///
-/// A breadth-first search, which visits each such row once.
+/// rows at which its front doesn't end: a breadth-first search.
 fn is_fronted(
     alloc: Global,
     width: usize,

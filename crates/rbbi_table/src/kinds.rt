@@ -1,5 +1,4 @@
-//! The kinds of the moves of a row: which characters leave a search in rows that it needn't tell
-//! apart.
+//! The kinds of the moves of a row: which characters leave a search in rows that are alike.
 ghost use Rattle.std.specs.Prelude.{◌≡◌, ℕ, ◌+◌, ◌*◌, ◌<◌, ◌≤◌, length, slice_index, IsTrue};
 ghost use Rattle.std.specs.Prelude.{if◌then◌else◌};
 ghost use Rattle.rbbi_table.specs.Parts.{AreNextRows};

@@ -22,8 +22,7 @@ pub(crate) fn is_valid_list(statuses: &[u32]) -> bool
     previous <= LARGEST_STATUS
 }
 
-/// Whether the one list comes before the other, compared number by number, a prefix before what it
-/// begins.
+/// Whether the one list comes before the other in lexicographic order.
 pub(crate) fn is_before(these: &[u32], those: &[u32]) -> bool
     ensures { IsTrue result ↔ IsBefore these.now those.now }
 {

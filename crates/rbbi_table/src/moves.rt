@@ -9,17 +9,16 @@ ghost use Rattle.rbbi_table.specs.inner.Moves.{row_moves};
 use crate::RowHead;
 use std::alloc::{AllocError, Global};
 
-/// How many numbers stand behind the moves of a row: its front mask, its list and its accept
-/// number.
+/// How many numbers follow the moves of a row: its front mask, list and accept number.
 pub(crate) const HEAD: usize = 3;
 
-/// The place of the front mask behind a row's moves.
+/// The place of the front mask after a row's moves.
 pub(crate) const FRONTS: usize = 0;
 
-/// The place of the list behind a row's moves.
+/// The place of the list after a row's moves.
 pub(crate) const LIST: usize = 1;
 
-/// The place of the accept number behind a row's moves.
+/// The place of the accept number after a row's moves.
 pub(crate) const ACCEPT: usize = 2;
 
 /// The bit of a move to a row at which some rule ends, and no look-ahead rule.
@@ -28,8 +27,7 @@ const ENDS: u32 = 1;
 /// The bit of a move to a row at which a front ends.
 pub(crate) const FRONT_ENDS: u32 = 2;
 
-/// The bit of a move to a row at which the search is over: row 0, or one that completes a
-/// look-ahead rule.
+/// The bit of a move to row 0, or to a row at which a look-ahead rule is completed.
 pub(crate) const STOPS: u32 = 4;
 
 /// A move has above its three bits the place at which the row begins in the flat list.
@@ -77,8 +75,7 @@ fn push_row(
 }
 
 /// For each row its moves, one for each category, and then its front mask, its list and its accept
-/// number. So the loop of a search reads one number a character, and a row's place needs no
-/// product.
+/// number. So a search reads one number a character, and a row's place needs no product.
 pub(crate) fn moves_of(
     alloc: Global,
     categories: u16,

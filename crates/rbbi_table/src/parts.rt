@@ -25,8 +25,7 @@ impl Model for RangeRow {
     ghost inverse = { λ range. record { start = range.start; cat = range.category } };
 }
 
-/// What a row says about the characters that lead to it. Contracts see it as a `RowHead` of
-/// `rbbi_model`.
+/// What is marked at a row. Contracts see it as a `RowHead` of `rbbi_model`.
 #[derive(Clone, Copy, Debug, PartialEq, Eq)]
 pub struct RowHead {
     /// 0 if no rule ends, 1 if some rule ends and no look-ahead rule, and `k + 2` if look-ahead

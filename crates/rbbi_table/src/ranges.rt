@@ -16,8 +16,7 @@ fn goes_on(categories: u16, previous: &RangeRow, range: &RangeRow) -> bool
         && range.cat < categories
 }
 
-/// Whether there are enough and few enough categories, and the ranges give each code point one of
-/// them.
+/// Whether the number of categories is allowed and the ranges give each code point one of them.
 pub(crate) fn are_valid_ranges(categories: u16, ranges: &[RangeRow]) -> bool
     ensures { IsTrue result ↔ AreValidRanges categories ranges.now }
 {

@@ -49,8 +49,7 @@ fn is_valid_head(head: &RowHead, slashes: u16, lists: usize) -> bool
     has_fronts_below(head.fronts, slashes)
 }
 
-/// Whether a row is valid: its head is, its next rows are rows, and if a search ends at it, it
-/// leads to row 0 only.
+/// Whether a row's head is valid, and it leads to rows, and if a search ends at it, to row 0 only.
 fn is_valid_row(rows: &[RowHead], row: usize, steps: &[u16], slashes: u16, lists: usize) -> bool
     requires row { row < length rows.now }
     requires rows { length rows.now ≤ 4095 }

@@ -10,8 +10,7 @@ use crate::gather::add_target;
 use crate::{ByteList, RowHead};
 use std::alloc::{AllocError, Global};
 
-/// Gathers the distinct rows that open rows lead to by one category. An open row is neither row 0
-/// nor one at which a look-ahead rule is completed.
+/// Gathers the distinct rows that open rows lead to by one category.
 fn gather_targets(
     alloc: Global,
     rows: &[RowHead],
@@ -38,9 +37,8 @@ fn gather_targets(
     Ok(())
 }
 
-/// Keeps of the categories that are marked those by which two rows lead to one row. The next rows
-/// of the two begin at these places. It reads both side by side, so that many categories are
-/// compared at once.
+/// Keeps of the marked categories those by which two rows lead to one row. The next rows of the two
+/// begin at these places, and are read side by side.
 fn narrow(marked: &mut [bool], cells: &[u16], one: usize, other: usize)
     requires one { one + length marked.old ≤ length cells.now }
     requires other { other + length marked.old ≤ length cells.now }

@@ -1,5 +1,4 @@
-//! The rows of a table with no look-ahead rules in numbers of 16 bits, as the loop of a search
-//! reads them.
+//! The rows of a table with no look-ahead rules in 16-bit numbers, as a search reads them.
 ghost use Rattle.std.specs.Prelude.{◌≡◌, ℕ, ◌+◌, ◌*◌, ◌/◌, ◌^◌, ◌<◌, ◌≤◌, ◌⊎◌, [], length};
 ghost use Rattle.std.specs.Prelude.{slice_index, IfOk};
 ghost use Rattle.rbbi_table.specs.Parts.{rows_of, AreNextRows};
@@ -24,8 +23,7 @@ const NEAR: usize = 0x2_0000;
 /// What is kept beside a table with no look-ahead rules, if it isn't too large.
 #[derive(Debug, Drop)]
 pub(crate) struct Short {
-    /// Row by row the list and the moves. Nothing if the table has look-ahead rules or is too
-    /// large.
+    /// Row by row the list and the moves, or nothing, as `short_of` says.
     pub(crate) moves: Vec<u16>,
     /// The categories of the first code points.
     pub(crate) near: Vec<u8>,
@@ -33,8 +31,7 @@ pub(crate) struct Short {
     pub(crate) start: usize,
 }
 
-/// How many numbers a row takes: its list, a move for each category, and as many more as make it a
-/// multiple of 4.
+/// How many numbers a row takes: its list and a move for each category, up to a multiple of 4.
 fn short_stride(width: usize) -> usize
     requires { width < 65536 }
     ensures { result ≡ (width + 4) / 4 * 4 }
@@ -42,8 +39,7 @@ fn short_stride(width: usize) -> usize
     (width + 4) / 4 * 4
 }
 
-/// Writes a row from its place on: its list, and for each category the place of the next row and
-/// the kind of the move.
+/// Writes a row from its place on: its list, and for each category a move of its kind.
 fn write_row(moves: &mut [u16], place: usize, stride: usize, list: u16, steps: &[u16], kinds: &[u8])
     requires all { length kinds.now ≡ length steps.now }
     requires within { place + length steps.now < length moves.old }
@@ -62,7 +58,7 @@ fn write_row(moves: &mut [u16], place: usize, stride: usize, list: u16, steps: &
     }
 }
 
-/// Writes all rows, one behind the other. `kinds` is room for the kinds of a row's moves.
+/// Writes all rows, one after the other. `kinds` is room for the kinds of a row's moves.
 fn write_rows(
     moves: &mut [u16],
     kinds: &mut [u8],
@@ -140,8 +136,7 @@ fn near_of(alloc: Global, blocks: &Blocks) -> Result<Vec<u8>, AllocError>
     Ok(near)
 }
 
-/// The short moves of these rows, or nothing if there are look-ahead rules, or too many numbers or
-/// categories.
+/// The short moves of these rows, or none with look-ahead rules, or too many numbers or categories.
 pub(crate) fn short_of(
     alloc: Global,
     slashes: u16,

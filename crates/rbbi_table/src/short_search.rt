@@ -1,6 +1,6 @@
 //! One search in a table with no look-ahead rules.
 //!
-//! A row's numbers are its list and, behind it, a move for each category. A move is the place at
+//! A row's numbers are its list and, after it, a move for each category. A move is the place at
 //! which the next row begins, which is a multiple of 4, and more by its kind (`kinds.rt`), 0 to 3.
 //! Kinds 2 and 3 have the upper bit of the two. While moves have the kinds 0 and 1, a search goes
 //! on over rows at which a rule ends and that are alike, so each move is looked up in the row at
@@ -27,7 +27,7 @@ const OTHER: u16 = 3;
 /// The move to row 0, at which a search ends: its place is 0.
 const STOP: u16 = OTHER;
 
-/// The place of a character's move behind the beginning of a row.
+/// The place of a character's move after the beginning of a row.
 #[inline(always)]
 fn place_of(near: &[u8], numbers: &[u16], kept: &[u16], c: char) -> usize
     requires near { AreNear numbers.now kept.now near.now }

@@ -195,8 +195,7 @@ impl Table {
             .get(r as usize * self.parts.categories as usize + cat as usize)
     }
 
-    /// The category of a character, in two steps: its block of 256 code points, then its place in
-    /// the block.
+    /// The category of a character.
     pub fn category(&self, c: char) -> u16
         ensures value { result ≡ category_of self.now.ranges c }
         ensures within { result < self.now.categories }
@@ -204,8 +203,7 @@ impl Table {
         self.blocks.category(c)
     }
 
-    /// Whether the pair of categories is safe: after both, it no longer matters in which row a
-    /// search was.
+    /// Whether the pair of categories is safe.
     pub fn is_safe(&self, c1: u16, c2: u16) -> bool
         requires first { c1 < self.now.categories }
         requires second { c2 < self.now.categories }

@@ -1,4 +1,4 @@
--- The parts that an edit leaves of a run, as functions of the first safe pair behind the edit.
+-- The parts that an edit leaves of a run, as functions of the first safe pair after the edit.
 use Rattle.std.specs.Prelude.{◌≡◌, ℕ, ◌+◌, ◌≤◌, ◌⊎◌, Bool, false, not, ◌&&◌, ◌||◌, List, [], ◌∷◌, length, Option, Some, None, if◌then◌else◌, ◌==◌, nat_le}
 use Rattle.std.specs.List.{AllByRecursion}
 use Rattle.rbbi_model.specs.Words.{most_characters}
@@ -6,11 +6,11 @@ use Rattle.rbbi_model.specs.Runs.{Entry, Run, ReachesRise}
 use Rattle.rbbi_cache.specs.inner.Lists.{IsOrdered}
 use Rattle.rbbi_cache.specs.Edits.{left_part, moved_run, run_behind}
 
--- the entry lies so far behind the start that it can be moved
+-- the entry lies so far after the start that it can be moved
 abbrev pub CanMove : ℕ → Entry → Type 0
 CanMove removed entry = (removed ≤ entry.at) × (entry.at ≤ entry.reach) × (entry.reach ≤ most_characters + 1)
 
--- the entry lies behind its run's anchor, or that is 0, and no farther than it reaches
+-- the entry lies after its run's anchor, or that is 0, and no farther than it reaches
 abbrev pub IsPlaced : ℕ → Entry → Type 0
 IsPlaced anchor entry = ((anchor ≡ 0) ⊎ (anchor ≤ entry.at)) × (entry.at ≤ entry.reach) × (entry.reach ≤ most_characters + 1)
 
@@ -26,12 +26,11 @@ abbrev pub is_found_at : Option ℕ → ℕ → Bool
 is_found_at None place = false
 is_found_at (Some q) place = q == place
 
--- The run goes whole: its anchor lies behind what was removed, and a safe pair begins there. That is so for every anchor of a true
--- run but 0, where it is seen in the new text.
+-- The run goes whole: its anchor lies after what was removed, and a safe pair begins there (at 0 it is seen in the new text).
 abbrev pub moves_whole : ℕ → ℕ → ℕ → Option ℕ → Run → Bool
 moves_whole at removed inserted pair run = nat_le (at + removed) run.anchor && (not (run.anchor == 0) || is_found_at pair (at + inserted))
 
--- the entries behind the pair, or none
+-- the entries after the pair, or none
 abbrev pub part_behind : ℕ → ℕ → ℕ → Option ℕ → Run → Run
 part_behind at removed inserted None run = record { anchor = 0; entries = []; leads = false }
 part_behind at removed inserted (Some q) run = run_behind at removed inserted q run

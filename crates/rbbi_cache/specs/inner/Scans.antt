@@ -14,8 +14,7 @@ pub record Reached (table : Table) (x : List ℕ) (p : ℕ) (done : List Boundar
   pub whole : fresh table x p ≡ done ++ here ∷ follow_by (next_boundary table x) (length x) most here
   pub enough : length x ≤ here.at + most
 
--- What searches have found: the members that are done, those of them that aren't entries, the entry from which they went on (or
--- none), the entries that they found, and where they are.
+-- What searches have found: members that are done, those that aren't entries, the entry from which they went on (or none), new entries, and their place.
 pub record Scan : Type 0 where
   pub done : List Boundary
   pub skipped : List Boundary
@@ -27,8 +26,7 @@ pub record Scan : Type 0 where
 abbrev pub EndWith : List Entry → Entry → Type 0
 EndWith entries here = (entries ≡ []) ⊎ ((front : List Entry) × (entries ≡ front ++ here ∷ []))
 
--- The searches from the anchor p, each from a place that isn't past i, have found this, and the run keeps the last of the entries. It
--- leads as long as it keeps all.
+-- The searches from the anchor p, each from a place not past i, have found this. The run keeps the last of the entries, and leads while it keeps all.
 pub record IsScan (table : Table) (x : List ℕ) (p i : ℕ) (scan : Scan) (run : Run) : Type 0 where
   pub reached : Reached table x p scan.done (boundary_of table scan.here)
   pub up_to : AllByRecursion (λ b. b.at ≤ i) scan.done

@@ -1,4 +1,4 @@
--- Ranges that are added one behind another.
+-- Ranges that are added one after another.
 use Rattle.std.specs.Prelude.{◌≡◌, ℕ, ◌⊎◌, List, [], ◌∷◌, ◌++◌}
 use Rattle.rbbi_model.specs.Tables.{CategoryRange}
 

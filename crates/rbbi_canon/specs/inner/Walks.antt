@@ -6,8 +6,7 @@ use Rattle.rbbi_model.specs.Canonical.{AreNumberedAsMet}
 use Rattle.rbbi_canon.specs.declared.grid.Grid.{Grid}
 use Rattle.rbbi_canon.specs.inner.Grids.{table_of_cells, table_of_grid, cell_of, LeadOnAlike}
 
--- Each row leads to rows, row 0 to itself, and each but row 0 is reached from row 1. By each category every row leads on as by one of the
--- firsts.
+-- Each row leads to rows, row 0 to itself, and each but row 0 is reached from row 1. By each category every row leads on as by one of the firsts.
 pub record CanBeWalked (grid : Grid) (firsts : List ℕ) : Type 0 where
   pub some : 2 ≤ grid.rows
   pub few : grid.rows ≤ 4095
@@ -25,8 +24,7 @@ AreSteps grid firsts order cells count =
     (slice_index cells (k * length firsts + number) < length order)
     × (slice_index order (slice_index cells (k * length firsts + number)) ≡ cell_of grid (slice_index order k) (slice_index firsts number))
 
--- The order has each row once, rows 0 and 1 first. The new next rows lead as the old ones do, and from row 2 on rows are numbered as they
--- are met.
+-- The order has each row once, rows 0 and 1 first. The new next rows lead as the old ones do, and from row 2 on rows are numbered as they are met.
 pub record AreWalked (grid : Grid) (firsts order cells : List ℕ) : Type 0 where
   pub many : length order ≡ grid.rows
   pub stop : slice_index order 0 ≡ 0

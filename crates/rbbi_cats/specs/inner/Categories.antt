@@ -14,7 +14,7 @@ IsHeld sets c = Any (λ set. Has set c) sets
 abbrev pub category_by : List Step → List ℕ → ℕ → ℕ
 category_by steps categories c = slice_index categories (number_at steps c)
 
--- Code points have one category exactly where none of the sets tells them apart, and one other than 0 exactly where some set holds them.
+-- Code points have one category exactly where none of the sets distinguishes them, and one other than 0 exactly where some set holds them.
 pub record AreCategories (steps : List Step) (sets : List (List Range)) (categories : List ℕ) : Type 0 where
   pub alike : (c d : ℕ) → c ≤ 0x10FFFF → d ≤ 0x10FFFF → (category_by steps categories c ≡ category_by steps categories d) ↔ AreTogether sets c d
   pub some : (c : ℕ) → c ≤ 0x10FFFF → (category_by steps categories c ≢ 0) ↔ IsHeld sets c

@@ -1,5 +1,4 @@
--- Automata: what determinising gives, before rows that can't be told apart are merged. An automaton is seen as a table
--- that has no ranges and no safe pairs.
+-- Automata: what determinising gives, before rows that can't be distinguished are merged. An automaton is seen as a table that has no ranges and no safe pairs.
 use Rattle.std.specs.Prelude.{◌≡◌, ◌≢◌, ℕ, ◌+◌, ◌*◌, ◌^◌, ◌<◌, ◌≤◌, List, [], ◌∷◌, length}
 use Rattle.std.specs.List.{AllByRecursion}
 use Rattle.rbbi_model.specs.Tables.{Table, CategoryRange, accept_of, fronts_of, list_of, statuses_of, step, row_along}

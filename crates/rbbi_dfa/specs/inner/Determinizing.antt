@@ -18,8 +18,7 @@ abbrev pub EndsBy : PositionRows → List ℕ → ℕ → Type 0
 EndsBy rows candidates category =
     (position : ℕ) × Holds candidates position × Holds (listed_row rows.reads category) position × Holds rows.last position
 
--- The position comes next by the category: it reads it and is a candidate, or first in a rule that is chained into where a
--- candidate ends.
+-- The position comes next by the category: it reads it and is a candidate, or first in a rule that is chained into where a candidate ends.
 abbrev pub ComesBy : PositionRows → List ℕ → ℕ → ℕ → Type 0
 ComesBy rows candidates category position =
     Holds (listed_row rows.reads category) position × (Holds candidates position ⊎ (Holds rows.chained position × EndsBy rows candidates category))

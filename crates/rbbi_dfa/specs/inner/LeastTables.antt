@@ -9,8 +9,7 @@ use Rattle.rbbi_dfa.specs.inner.Partitions.{NeedsRows}
 use Rattle.rbbi_dfa.specs.declared.error.BuildErr.{BuildErr}
 use Rattle.rbbi_dfa.specs.declared.error.BuildErr.TheVariants.{TooManySets, TooManyRows, TooManyStatuses, Memory}
 
--- A least table, valid but for its ranges and safe pairs, with the marks of the automaton along all categories. The automaton needs
--- no more rows than a table may have.
+-- A least table, valid but for its ranges and safe pairs, with the marks of the automaton along all categories, which needs no more rows.
 pub record IsLeastOf (automaton table : Table) : Type 0 where
   pub categories : table.categories ≡ automaton.categories
   pub slashes : table.slashes ≡ automaton.slashes
@@ -22,7 +21,7 @@ pub record IsLeastOf (automaton table : Table) : Type 0 where
   pub marks : (way : List ℕ) → IsWay automaton way → marks_of table (row_along table 1 way) ≡ marks_of automaton (row_along automaton 1 way)
   pub enough : ¬ NeedsRows automaton 4095
 
--- The least table, or too many rows exactly where more than 4,095 are needed, row 0 counted. Want of memory tells nothing.
+-- The least table, or too many rows exactly where more than 4,095 are needed, row 0 counted. `Memory` says nothing more.
 abbrev pub GivesLeast : Table → Result Table BuildErr → Type 0
 GivesLeast automaton (Ok table) = IsLeastOf automaton table
 GivesLeast automaton (Err TooManySets) = ⊥

@@ -68,8 +68,7 @@ pub record AreRowsOf (marks : PositionMarks) (categories slashes : ℕ) (rows : 
   pub fronts : AreMarkedIn marks Fronts rows.fronts
   pub tags : AreMarkedIn marks Tags rows.tags
 
--- The marks can be read for so many categories and look-ahead rules: they are few, each position has a rule, and the categories are
--- those of the marks.
+-- The marks can be read for so many categories and look-ahead rules: they are few, each position has a rule, and the categories are those of the marks.
 pub record AreReadable (marks : PositionMarks) (categories slashes : ℕ) : Type 0 where
   pub few : marks.leaves ≤ 8192
   pub few_slashes : slashes ≤ 32

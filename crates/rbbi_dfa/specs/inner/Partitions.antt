@@ -11,7 +11,7 @@ IsToldApart automaton this that =
     (way : List ℕ) × IsWay automaton way × (marks_of automaton (row_along automaton this way) ≢ marks_of automaton (row_along automaton that way))
 
 -- Each row has a class, and each class a first row. Class 0 is row 0 alone, and row 1 is the first of class 1. Rows of one
--- class have the same marks. Where there are more than two rows, those of different classes are told apart.
+-- class have the same marks. Where there are more than two rows, those of different classes are distinguished.
 pub record IsPartition (automaton : Table) (classes firsts : List ℕ) : Type 0 where
   pub rows : length classes ≡ length automaton.rows
   pub some : 2 ≤ length firsts
@@ -64,7 +64,7 @@ pub record IsMerged (automaton : Table) (classes firsts : List ℕ) (table : Tab
   pub in_order : AreInOrder table.lists
   pub named : (list : ℕ) → list < length table.lists → (class : ℕ) × (class < length firsts) × (list_of table class ≡ list)
 
--- A table with the marks of the automaton needs so many rows beside row 0: there are so many rows, each two told apart.
+-- A table with the marks of the automaton needs so many rows beside row 0: there are so many rows, each two distinguished.
 pub record NeedsRows (automaton : Table) (count : ℕ) : Type 0 where
   pub rows : List ℕ
   pub many : length rows ≡ count

@@ -26,8 +26,7 @@ pub record PositionRows : Type 0 where
   pub fronts : List PositionMark
   pub tags : List PositionMark
 
--- Rows have one width each, of at most 128 words, and there is one for each category. Numbers of look-ahead rules are below their count. Status numbers
--- don't fall along their list.
+-- Rows have one width, of at most 128 words, and there is one for each category. Numbers of look-ahead rules are below their count. Tags don't fall.
 pub record AreRows (rows : PositionRows) : Type 0 where
   pub some_categories : 1 ≤ rows.categories
   pub few_categories : rows.categories ≤ 1000

@@ -18,7 +18,7 @@ pub(crate) struct LastWords {
     unions: Vec<SpannedRow>,
 }
 
-/// Adds the positions that may follow those of a word, which is word `i` of a set.
+/// Adds the positions that may follow those of word `i` of a set.
 fn follow_word(rows: &Rows, i: usize, word: u64, next: &mut [u64])
     requires wide { length next.old ≡ rows.now.width }
     requires within { i < rows.now.width }
@@ -32,7 +32,7 @@ fn follow_word(rows: &Rows, i: usize, word: u64, next: &mut [u64])
     }
 }
 
-/// The positions that may follow those of a word, which is word `i` of a set.
+/// The positions that may follow those of word `i` of a set.
 fn union_of(alloc: Global, rows: &Rows, i: usize, word: u64) -> Result<SpannedRow, AllocError>
     requires { i < rows.now.width }
     ensures wide { IfOk result (λ union. length union ≡ rows.now.width) }

@@ -30,9 +30,8 @@ pub(crate) fn is_read(rows: &Rows, candidates: &[u64], span: Span, category: usi
     meet_within(candidates, readers(rows, category), span)
 }
 
-/// Makes `next` the positions that come next by the category: the candidates that read it, and
-/// where one of these is last also the first positions of the rules that may be chained into, if
-/// they read it. These add nothing further: where one of them is last, the candidate before it was.
+/// Makes `next` the positions that come next by the category: the candidates that read it, and if
+/// one of these is last, the first positions that read it of rules that may be chained into.
 pub(crate) fn step(rows: &Rows, candidates: &[u64], category: usize, next: &mut [u64])
     requires category { category < rows.now.categories }
     requires candidates { length candidates.now ≡ rows.now.width }

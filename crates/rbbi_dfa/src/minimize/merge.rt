@@ -66,9 +66,8 @@ fn merged_heads(
     Ok(heads)
 }
 
-/// Merges the rows of each class into one: the row of a class has the marks of its first row, and
-/// leads to the classes into which that row leads. The status lists are in order, and each is some
-/// row's.
+/// Merges the rows of each class into one, which has the marks of its first row and leads to the
+/// classes of that row's next rows. The status lists are in order, and each is some row's.
 pub(crate) fn merge(
     alloc: Global,
     automaton: &Automaton,

@@ -10,8 +10,8 @@ use std::alloc::{AllocError, Global};
 /// The most rows that a table may have.
 pub(crate) const MOST_ROWS: usize = 4095;
 
-/// A partition of an automaton's rows into classes that are told apart: rows of different classes
-/// have different marks along some categories. Rows of one class need not be alike yet.
+/// A partition of an automaton's rows into classes: rows of different classes have different marks
+/// along some categories. Rows of one class need not be alike yet.
 #[derive(Drop)]
 pub(crate) struct Partition {
     /// The class of each row.
@@ -21,11 +21,9 @@ pub(crate) struct Partition {
 }
 
 impl Partition {
-    /// Splits a class in two: some of its rows lead by the category to rows that are inside, and
-    /// some to rows that are not. Those that do as the first row does stay, and the others make a
-    /// new class, the last. Gives how many left, which may be none; then nothing changes.
-    ///
-    /// Rows of one class are all inside or all outside, so the split is sound whatever was chosen.
+    /// Splits a class by whether its rows lead by the category to rows inside. Those that do as the
+    /// first row does stay, and the others make a new class, the last. Gives how many left, which
+    /// may be none.
     pub fn split(
         &mut self,
         alloc: Global,
@@ -80,8 +78,7 @@ impl Partition {
     }
 }
 
-/// How a class is cut: rows that lead by the category to rows inside stay, or those that lead
-/// outside.
+/// How a class is split: the rows that lead by the category inside stay, or those that don't.
 #[derive(Clone, Copy)]
 struct Cut {
     class: u16,

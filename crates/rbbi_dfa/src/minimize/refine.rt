@@ -49,8 +49,7 @@ pub(crate) fn refine(
     Ok(())
 }
 
-/// Splits every class of which some rows lead by a category into the splitter, and some don't. The
-/// splitter is taken as it stands now, also where it is split on the way.
+/// Splits every class of which some rows lead by a category into the splitter as it is now.
 fn split_by(
     alloc: Global,
     automaton: &Automaton,

@@ -7,8 +7,7 @@ ghost use Rattle.rbbi_dfa.specs.inner.Partitions.{IsPartition, IsStable};
 use crate::automaton::Automaton;
 use crate::minimize::Partition;
 
-/// A row and a category by which it leads into another class than the first row of its class does,
-/// or None exactly if there are none.
+/// A row and a category by which it leads into another class than its class's first row does.
 pub(crate) fn disagreement(automaton: &Automaton, partition: &Partition) -> Option<(u16, u16)>
     requires determined { IsDetermined automaton.now }
     requires partition { IsPartition automaton.now partition.now.classes.items

@@ -32,11 +32,11 @@ ends (Then front rest) first position = ends rest (first + leaf_count front) pos
 ends (Either front rest) first position = ends front first position || ends rest (first + leaf_count front) position
 ends (Repeat repetition part) first position = ends part first position
 
--- whether the next position may stand behind what stands before the tree, where behind the tree it may or not
+-- whether the next position may stand after what stands before the tree, where after the tree it may or not
 abbrev pub leads : Tree → ℕ → ℕ → Bool → Bool
 leads tree first next behind = begins tree first next || (is_nullable tree && behind)
 
--- whether the next position may stand right after the position in the tree, where behind the tree it may or not
+-- whether the next position may stand right after the position in the tree, where after the tree it may or not
 abbrev pub goes : Tree → ℕ → ℕ → ℕ → Bool → Bool
 goes (Leaf set) first position next behind = (position == first) && behind
 goes Empty first position next behind = false

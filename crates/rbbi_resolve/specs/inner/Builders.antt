@@ -67,14 +67,14 @@ pub record AddsTree (context : Context) (before after : Builder) (meaning : Mean
   pub is : new ≡ old ++ tree ∷ []
   pub built : Builds context before after meaning tree
 
--- a tree made of parts stands behind the others
+-- a tree made of parts stands after the others
 pub record IsJoined (make : List spelling.Tree → spelling.Tree) (before parts trees : List Tree) : Type 0 where
   pub tree : Tree
   pub is : trees ≡ before ++ tree ∷ []
   pub stands : (sets : List (List Range)) → tree_of sets tree ≡ make (map (tree_of sets) parts)
   pub numbers : numbers_of tree ≡ flat_map numbers_of parts
 
--- the trees behind the first ones became one
+-- the trees after the first ones became one
 abbrev pub JoinsFrom : (List spelling.Tree → spelling.Tree) → ℕ → List Tree → List Tree → Type 0
 JoinsFrom make first old new = (before parts : List Tree) → first ≡ length before → old ≡ before ++ parts → IsJoined make before parts new
 

@@ -3,7 +3,7 @@ use Rattle.std.specs.Prelude.{ℕ, ◌+◌, ◌*◌, List, [], ◌∷◌, ◌++�
 use Rattle.rbbi_model.specs.Tables.{RowHead, empty_head}
 use Rattle.rbbi_table.specs.Kept.{move_flags}
 
--- the moves to these next rows, and behind them the row's front mask, its list and its accept number
+-- the moves to these next rows, and after them the row's front mask, its list and its accept number
 abbrev pub row_moves : ℕ → List RowHead → List ℕ → RowHead → List ℕ
 row_moves width rows steps head =
     map (λ next. next * width * 8 + move_flags (slice_index_or rows next empty_head) next) steps

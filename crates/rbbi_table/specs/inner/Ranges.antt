@@ -1,4 +1,4 @@
--- Which of some ranges that rise holds a code point, and a range that is valid behind another.
+-- Which of some ranges that rise holds a code point, and a range that is valid after another.
 use Rattle.std.specs.Prelude.{◌≢◌, ℕ, ◌+◌, ◌<◌, ◌≤◌, List, length, slice_index_or}
 use Rattle.rbbi_model.specs.Tables.{CategoryRange}
 use Rattle.rbbi_model.specs.ValidTables.{IsWithin}
@@ -7,7 +7,7 @@ use Rattle.rbbi_model.specs.ValidTables.{IsWithin}
 abbrev pub start_of : List CategoryRange → ℕ → ℕ
 start_of ranges range = (slice_index_or ranges range (record { start = 0; category = 0 })).start
 
--- the range is valid behind the one before it
+-- the range is valid after the one before it
 abbrev pub IsValidBehind : ℕ → CategoryRange → CategoryRange → Type 0
 IsValidBehind categories previous range = (previous.start < range.start) × (previous.category ≢ range.category) × IsWithin categories range
 

@@ -13,7 +13,7 @@ turn : (g : Over) (c : After-look_up-category g) →
     IsStep (table_of c.args.parts.now) c.args.moves.now (g.T.Chars.characters c.args.text.now) c.args.s c.loop-at.at c.loop-at.row c.look_up-category.result
 turn g c = step_reads c.requires.kept c.look_up-category.result c.len-len.ensures.text c.loop-at.invariant.searched (omega arith) cc
 
--- the last end behind the turn's character
+-- the last end after the turn's character
 last : (g : Over) (c : Joined-cell-eq1 g) →
     IsStep (table_of c.args.parts.now) c.args.moves.now (g.T.Chars.characters c.args.text.now) c.args.s c.loop-at.at c.loop-at.row c.look_up-category.result →
     IsEndRead (table_of c.args.parts.now) c.args.moves.now (g.T.Chars.characters c.args.text.now) c.args.s (suc c.loop-at.at) c.if-cell-eq1.end

@@ -93,7 +93,7 @@ returns-then-end-len g c =
       read = omega (arith, finds.look_is, over.read, over.further, c.reading.invariant.read, turn.1, turn.2.from, turn.2.to, whole);
     }
 
--- the turn behind a stretch
+-- the turn after a stretch
 behind : (g : Over) (c : After-stretch_from-over g) → c.stretch_from-over.result.end < length (g.T.Chars.characters c.args.text.now) →
     IsTurn (table_of c.args.parts.now) (g.T.Chars.characters c.args.text.now) c.args.s c.stretch_from-over.result.end c.stretch_from-over.result.next
     c.stretch_from-over.result.end c.stretch_from-over.result.row
