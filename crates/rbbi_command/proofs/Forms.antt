@@ -22,14 +22,7 @@ command_at word =
 
 named : (command : Command) → command_at (name_of command) ≡ Some command
 named Check = refl
-named Compile = refl
-named Upgrade = refl
-named Same = refl
-named Breaks = refl
-named Run = refl
-named Conform = refl
-named Tally = refl
-named Demo = refl
+named command = refl
 
 -- a word is that of one command alone
 pub same_command : (one other : Command) → name_of one ≡ name_of other → one ≡ other
@@ -55,6 +48,12 @@ module _ (words : List (List ℕ)) (word : List ℕ) (more : List (List ℕ)) (a
           same_settings more asks.settings settings request.operands rest
           (subst (λ w. BeginWithSettings w asks.settings request.operands) same asks.begin) begin
 
+      operands_are : (request : Request) (asks : IsCommandLine words request) (by_table : Bool) → by_table ≡ are_by_table settings
+          → operands_of request.command request.options.by_table ≡ operands_of command by_table
+      operands_are request asks by_table same =
+          ap (λ c. operands_of c request.options.by_table) (command_is request asks)
+          ∙ ap (operands_of command) (ap (λ o. o.by_table) asks.options ∙ ap are_by_table (settings_are request asks).0 ∙ sym same)
+
       -- the command doesn't take the options
       pub not_taken : are_taken (taken_by command) settings ≡ false → AreNoForm words
       not_taken refused request asks =
@@ -66,19 +65,14 @@ module _ (words : List (List ℕ)) (word : List ℕ) (more : List (List ℕ)) (a
       -- there are more or fewer operands
       pub other_count : (by_table : Bool) → by_table ≡ are_by_table settings → length rest ≢ length (operands_of command by_table) → AreNoForm words
       other_count by_table same differ request asks =
-          let table : request.options.by_table ≡ by_table = ap (λ o. o.by_table) asks.options ∙ ap are_by_table (settings_are request asks).0 ∙ sym same in
-          differ
-          (ap length (sym (settings_are request asks).1) ∙ asks.count ∙ ap (λ c. length (operands_of c request.options.by_table)) (command_is request asks)
-          ∙ ap (λ t. length (operands_of command t)) table)
+          differ (ap length (sym (settings_are request asks).1) ∙ asks.count ∙ ap length (operands_are request asks by_table same))
 
       -- an operand isn't of its form
       pub not_fit : (by_table : Bool) → by_table ≡ are_by_table settings → ¬ AllFit (operands_of command by_table) rest → AreNoForm words
       not_fit by_table same none request asks =
-          let table : request.options.by_table ≡ by_table = ap (λ o. o.by_table) asks.options ∙ ap are_by_table (settings_are request asks).0 ∙ sym same in
           none
           (subst (AllFit (operands_of command by_table)) (settings_are request asks).1
-          (subst (λ t. AllFit (operands_of command t) request.operands) table
-          (subst (λ c. AllFit (operands_of c request.options.by_table) request.operands) (command_is request asks) asks.fit)))
+          (subst (λ os. AllFit os request.operands) (operands_are request asks by_table same) asks.fit))
 
 -- one request fits the words
 pub same_request : (words : List (List ℕ)) (one other : Request) → IsCommandLine words one → IsCommandLine words other → one ≡ other

@@ -46,110 +46,13 @@ at_index (s ∷ sources) (suc i) source inside is = at_index sources i source (o
 -- no limit is greater than what is read at once
 limit_fits : (role : Role) → limit_of role ≤ most_bytes
 limit_fits role.Property = omega arith
-limit_fits role.Filter = omega arith
-limit_fits role.Rules = omega arith
-limit_fits role.OtherRules = omega arith
-limit_fits role.Table = omega arith
-limit_fits role.Text = omega arith
-limit_fits role.Script = omega arith
-limit_fits role.Tests = omega arith
+limit_fits role = omega arith
 
 -- one file more within its limit
 put_short : (role : Role) (name bytes : List ℕ) (inputs : Inputs) → AreShort inputs → length bytes ≤ most_bytes → AreShort (put role name bytes inputs)
 put_short role.Property name bytes inputs s fits =
-    record {
-      properties = all_append (λ b. length b ≤ most_bytes) inputs.properties (bytes ∷ []) s.properties (fits, tt);
-      filter = s.filter;
-      rules = s.rules;
-      other_rules = s.other_rules;
-      table = s.table;
-      text = s.text;
-      script = s.script;
-      tests = s.tests;
-    }
-put_short role.Filter name bytes inputs s fits =
-    record {
-      properties = s.properties;
-      filter = fits;
-      rules = s.rules;
-      other_rules = s.other_rules;
-      table = s.table;
-      text = s.text;
-      script =
-          s.script;
-      tests = s.tests;
-    }
-put_short role.Rules name bytes inputs s fits =
-    record {
-      properties = s.properties;
-      filter = s.filter;
-      rules = fits;
-      other_rules = s.other_rules;
-      table = s.table;
-      text = s.text;
-      script =
-          s.script;
-      tests = s.tests;
-    }
-put_short role.OtherRules name bytes inputs s fits =
-    record {
-      properties = s.properties;
-      filter = s.filter;
-      rules = s.rules;
-      other_rules = fits;
-      table = s.table;
-      text = s.text;
-      script = s.script;
-      tests = s.tests;
-    }
-put_short role.Table name bytes inputs s fits =
-    record {
-      properties = s.properties;
-      filter = s.filter;
-      rules = s.rules;
-      other_rules = s.other_rules;
-      table = fits;
-      text = s.text;
-      script =
-          s.script;
-      tests = s.tests;
-    }
-put_short role.Text name bytes inputs s fits =
-    record {
-      properties = s.properties;
-      filter = s.filter;
-      rules = s.rules;
-      other_rules = s.other_rules;
-      table = s.table;
-      text = fits;
-      script =
-          s.script;
-      tests = s.tests;
-    }
-put_short role.Script name bytes inputs s fits =
-    record {
-      properties = s.properties;
-      filter = s.filter;
-      rules = s.rules;
-      other_rules = s.other_rules;
-      table = s.table;
-      text = s.text;
-      script =
-          fits;
-      tests = s.tests;
-    }
-put_short role.Tests name bytes inputs s fits =
-    record {
-      properties = s.properties;
-      filter = s.filter;
-      rules = s.rules;
-      other_rules = s.other_rules;
-      table = s.table;
-      text = s.text;
-      script =
-          s.script;
-      tests = fits;
-    }
+    assumption (all_append (λ b. length b ≤ most_bytes) inputs.properties (bytes ∷ []) s.properties (fits, tt), s)
+put_short role name bytes inputs s fits = assumption (fits, s)
 
 -- each file is within its limit
 lengths_pass : (held : List ℕ → List ℕ) (sources : List Source) → ((k : ℕ) (source : Source) → slice_get sources k ≡ Some source → length
@@ -189,17 +92,7 @@ none_read sources contents before writes inputs fit none =
     (record {
       inside = omega arith;
       same = refl;
-      short =
-          record {
-            properties = tt;
-            filter = omega arith;
-            rules = omega arith;
-            other_rules = omega arith;
-            table = omega arith;
-            text = omega arith;
-            script = omega arith;
-            tests = omega arith;
-          };
+      short = let none : 0 ≤ most_bytes = omega arith in assumption (none, tt);
       told =
           always_told contents (λ held. AreReadBefore held sources before before 0 no_inputs)
           (λ held. record { inputs_are = refl; within = λ k s less. absurd (omega arith); others = λ name differs. refl });

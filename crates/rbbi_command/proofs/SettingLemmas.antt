@@ -4,9 +4,9 @@ use Rattle.std.proofs.Common.{ap, ◌∙◌, subst, arith}
 use Rattle.std.specs.Prelude.{codes, bytes_eq, if◌then◌else◌, Option, Some, None}
 use Rattle.std.specs.Char.{is_ascii_alphanumeric}
 use Rattle.std.specs.List.{list_any, list_all, flat_map, AllByRecursion, position_or_len, before_first, after_first}
-use Rattle.std.proofs.lemmas.Bool.{false≢true, eq-eqb}
+use Rattle.std.proofs.lemmas.Bool.{and_parts, false≢true, eq-eqb}
 use Rattle.std.proofs.lemmas.Bool.Decides.{Decides-eqb}
-use Rattle.std.proofs.lemmas.List.{length-append, length-drop, append_assoc, append-nil, drop-drop}
+use Rattle.std.proofs.lemmas.List.{length-append, length-drop, append_assoc, append-nil, drop-drop, nil_from_length}
 use Rattle.std.proofs.lemmas.Grind.{flat_map-append}
 use Rattle.rbbi_model.specs.declared.unit.Unit.{Unit as TextUnit}
 use Rattle.rbbi_model.specs.declared.unit.Unit.TheVariants.{Chars, Utf8, Utf16}
@@ -15,17 +15,9 @@ use Rattle.rbbi_command.specs.declared.words.setting.Setting.{Setting}
 use Rattle.rbbi_command.specs.declared.words.setting.Setting.TheVariants.{HandIn, IgnoreDictionary, ByTable, CountIn, Suppress, Tailor}
 use Rattle.rbbi_command.specs.Settings.{is_property_name_byte, IsSetting, unit_word, spelled, BeginsWithoutOption, BeginWithSettings}
 
--- both sides of a test hold
-pub and_both : (a b : Bool) → a && b ≡ true → (a ≡ true) × (b ≡ true)
-and_both true b both = (refl, both)
-and_both false b both = absurd cc
-
 -- a text without bytes
 pub no_bytes : (xs : List ℕ) (empty : Bool) → empty ≡ eqb (length xs) 0 → empty ≡ true → xs ≡ []
-no_bytes [] empty is holds = refl
-no_bytes (x ∷ xs) empty is holds =
-    let none : length (x ∷ xs) ≡ 0 = (Decides-eqb (length (x ∷ xs)) 0).0 (sym is ∙ holds) in
-    absurd (omega arith)
+no_bytes xs empty is holds = nil_from_length xs ((Decides-eqb (length xs) 0).0 (sym is ∙ holds))
 
 -- no byte of a name is `=`
 no_equals_by : (x : ℕ) (same : Bool) → eqb x 61 ≡ same → is_property_name_byte x ≡ true → eqb x 61 ≡ false
@@ -37,15 +29,15 @@ no_equals_by x true is named =
 no_equals : (x : ℕ) → is_property_name_byte x ≡ true → eqb x 61 ≡ false
 no_equals x named = no_equals_by x (eqb x 61) refl named
 
--- the first `=` stands behind the name
+-- the first `=` stands after the name
 pub before_equals : (name file : List ℕ) → list_all is_property_name_byte name ≡ true → position_or_len (λ b. eqb b 61) (name ++ 61 ∷ file) ≡ length name
 before_equals [] file named = refl
 before_equals (x ∷ name) file named =
-    let parts = and_both (is_property_name_byte x) (list_all is_property_name_byte name) named in
+    let parts = and_parts (is_property_name_byte x) (list_all is_property_name_byte name) named in
     let next = before_equals name file parts.1 in
     ap (λ b. cond (not b) (1 + position_or_len (λ b. eqb b 61) (name ++ 61 ∷ file)) 0) (no_equals x parts.0) ∙ ap (λ n. 1 + n) next ∙ omega arith
 
--- what stands before and behind it
+-- what stands before and after it
 take_name : (name file : List ℕ) → take (length name) (name ++ 61 ∷ file) ≡ name
 take_name [] file = refl
 take_name (x ∷ name) file = ap (λ w. x ∷ w) (take_name name file)
@@ -57,7 +49,7 @@ drop_name (x ∷ name) file = drop_name name file
 module _ (word : List ℕ) (property : Property) (form : IsSetting (HandIn property)) (is : word ≡ property.name ++ 61 ∷ property.file) where
   place_is : position_or_len (λ b. eqb b 61) word ≡ length property.name
   place_is =
-      let parts = and_both (list_any is_ascii_alphanumeric property.name) (list_all is_property_name_byte property.name) form.0 in
+      let parts = and_parts (list_any is_ascii_alphanumeric property.name) (list_all is_property_name_byte property.name) form.0 in
       ap (position_or_len (λ b. eqb b 61)) is ∙ before_equals property.name property.file parts.1
 
   -- the word has a `=`
@@ -93,8 +85,7 @@ unit_at word =
 
 named_unit : (u : TextUnit) → unit_at (unit_word u) ≡ Some u
 named_unit Chars = refl
-named_unit Utf8 = refl
-named_unit Utf16 = refl
+named_unit u = refl
 
 -- a word is that of one unit alone
 same_unit : (u v : TextUnit) → unit_word u ≡ unit_word v → u ≡ v
@@ -118,11 +109,7 @@ number_of (Tailor file) = 5
 
 numbered : (s : Setting) (more : List (List ℕ)) → number_at (get_or (spelled s ++ more) 0 []) ≡ number_of s
 numbered (HandIn p) more = refl
-numbered IgnoreDictionary more = refl
-numbered ByTable more = refl
-numbered (CountIn u) more = refl
-numbered (Suppress f) more = refl
-numbered (Tailor f) more = refl
+numbered s more = refl
 
 differ : (m n : ℕ) → eqb m n ≡ false → m ≡ n → ⊥
 differ m n apart same = false≢true (sym apart ∙ eq-eqb m n same)
@@ -146,21 +133,18 @@ same_setting s t more others form form' same = other_word s t more others refl s
 
 -- an option begins as an option does
 option_begins : (s : Setting) (more : List (List ℕ)) → BeginsWithoutOption (spelled s ++ more) → ⊥
-option_begins (HandIn p) more none = none (codes "prop", refl)
-option_begins IgnoreDictionary more none = none (codes "ignore-dictionary", refl)
-option_begins ByTable more none = none (codes "table", refl)
-option_begins (CountIn u) more none = none (codes "units", refl)
-option_begins (Suppress f) more none = none (codes "suppress", refl)
-option_begins (Tailor f) more none = none (codes "tailor", refl)
+option_begins (HandIn p) more none = none (codes "prop") refl
+option_begins IgnoreDictionary more none = none (codes "ignore-dictionary") refl
+option_begins ByTable more none = none (codes "table") refl
+option_begins (CountIn u) more none = none (codes "units") refl
+option_begins (Suppress f) more none = none (codes "suppress") refl
+option_begins (Tailor f) more none = none (codes "tailor") refl
 
--- what stands behind the same option
+-- what stands after the same option
 behind_option : (s : Setting) (more others : List (List ℕ)) → spelled s ++ more ≡ spelled s ++ others → more ≡ others
-behind_option (HandIn p) more others same = cc
 behind_option IgnoreDictionary more others same = cc
 behind_option ByTable more others same = cc
-behind_option (CountIn u) more others same = ap (drop 2) same
-behind_option (Suppress f) more others same = ap (drop 2) same
-behind_option (Tailor f) more others same = ap (drop 2) same
+behind_option s more others same = ap (drop 2) same
 
 -- options that words begin with are among those of any other reading of them
 pub further_settings : (ss ts : List Setting) (w v : List (List ℕ)) → AllByRecursion IsSetting ss → AllByRecursion IsSetting ts → BeginsWithoutOption v
@@ -205,11 +189,6 @@ no_settings words w ss ts v are each begins none reading =
     no_further [] is = begins (subst BeginsWithoutOption (sym is.are) is.no_option)
     no_further (m ∷ more) is = none m (flat_map spelled more ++ v) is.each.0 (is.are ∙ append_assoc (spelled m) (flat_map spelled more) v)
 
--- one option more
-pub settings_push : (ss : List Setting) (s : Setting) → AllByRecursion IsSetting ss → IsSetting s → AllByRecursion IsSetting (ss ++ s ∷ [])
-settings_push [] s each is = (is, tt)
-settings_push (t ∷ ss) s each is = (each.0, settings_push ss s each.1 is)
-
 -- the words of the options so far and of one more
 pub words_push : (words : List (List ℕ)) (ss : List Setting) (s : Setting) (at : ℕ) → words ≡ flat_map spelled ss ++ drop at words
     → drop at words ≡ spelled s ++ drop (length (spelled s)) (drop at words)
@@ -223,11 +202,7 @@ words_push words ss s at are next =
 -- an option has words
 pub some_words : (s : Setting) → 1 ≤ length (spelled s)
 some_words (HandIn p) = omega arith
-some_words IgnoreDictionary = omega arith
-some_words ByTable = omega arith
-some_words (CountIn u) = omega arith
-some_words (Suppress f) = omega arith
-some_words (Tailor f) = omega arith
+some_words s = omega arith
 
 -- an option is no longer than the words that it begins
 pub words_left : (words behind : List (List ℕ)) (s : Setting) (at : ℕ) → at ≤ length words → behind ≡ drop at words

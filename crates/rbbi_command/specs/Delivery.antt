@@ -1,4 +1,4 @@
--- What is written of an outcome: its file first, and then what goes out.
+-- What is written of an outcome: its file first, and then its bytes.
 use Rattle.std.specs.Prelude.{◌≡◌, ◌⊎◌, ℕ, List, Option, Some, None, Result}
 use Rattle.rbbi_io.specs.declared.error.WriteErr.{WriteErr}
 use Rattle.rbbi_io.specs.Counts.{Rose, EachStays, OthersStay}

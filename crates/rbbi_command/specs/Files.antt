@@ -1,4 +1,4 @@
--- The files that words name to be read, each with its limit.
+-- The files that the arguments name to be read, each with its limit.
 use Rattle.std.specs.Prelude.{◌≡◌, ◌<◌, ◌≤◌, ℕ, List, [], ◌∷◌, ◌++◌, length, codes}
 use Rattle.rbbi_text.specs.Bytes.{most_bytes}
 use Rattle.rbbi_command.specs.declared.words.command.Operand.{Operand}
@@ -25,16 +25,12 @@ limit_of role.Text = 67108864
 limit_of role.Script = 1048576
 limit_of role.Tests = 16777216
 
--- what the faults of a file are told of
+-- the file that a fault in a role is reported for
 abbrev pub subject_of : Role → List ℕ → Subject
-subject_of role.Property name = File name
-subject_of role.Filter name = File name
 subject_of role.Rules name = Rules
 subject_of role.OtherRules name = OtherRules
 subject_of role.Table name = Table
-subject_of role.Text name = File name
-subject_of role.Script name = File name
-subject_of role.Tests name = File name
+subject_of role name = File name
 
 -- the file of an operand, where it is read
 abbrev pub operand_source : Operand → List ℕ → List Source
@@ -48,7 +44,7 @@ operand_sources [] names = []
 operand_sources (operand ∷ operands) [] = []
 operand_sources (operand ∷ operands) (name ∷ names) = operand_source operand name ++ operand_sources operands names
 
--- the files that a request names to be read, in the order of the words
+-- the files that a request names to be read, in the order of the arguments
 abbrev pub sources_of : Request → List Source
 sources_of request =
     request.options.files ++ operand_sources (operands_of request.command request.options.by_table) request.operands

@@ -48,20 +48,20 @@ pub data AreReads {S : Type 0} (gives : S → List ℕ → ℕ → Result (List 
   OneMore : (made : ℕ) (source : Source) (bytes : List ℕ) (between now : S) → AreReads gives sources before made between →
       slice_get sources made ≡ Some source → gives between source.name (limit_of source.role) (Ok bytes) now → AreReads gives sources before (made + 1) now
 
--- what is told of a file whose read was refused
+-- what is reported of a file whose read was refused
 abbrev pub refused_read : Source → ReadErr → Refusal
 refused_read source read.Failed = Unread source.name
 refused_read source read.TooLong = too_long source
 refused_read source read.Memory = Memory
 
--- One read of this file was refused, and that is what is told, or want of memory.
+-- One read of this file was refused, and that is what is reported, or memory ran out.
 pub record IsRefusedRead {S : Type 0} (gives : S → List ℕ → ℕ → Result (List ℕ) ReadErr → S → Type 0) (source : Source) (before : S) (refusal : Refusal)
     (now : S) : Type 0 where
   pub error : ReadErr
   pub answer : gives before source.name (limit_of source.role) (Err error) now
   pub told : (refusal ≡ Memory) ⊎ (refusal ≡ refused_read source error)
 
--- Some of the files were read, and then memory ran out, or the read of the next one was refused, and behind that one there was no other.
+-- Some of the files were read, and then memory ran out, or the read of the next one was refused, and it was the last read.
 pub record StopsReading {S : Type 0} (gives : S → List ℕ → ℕ → Result (List ℕ) ReadErr → S → Type 0) (sources : List Source) (before : S)
     (refusal : Refusal) (now : S) : Type 0 where
   pub made : ℕ
@@ -70,7 +70,7 @@ pub record StopsReading {S : Type 0} (gives : S → List ℕ → ℕ → Result 
   pub last : ((now ≡ between) × (refusal ≡ Memory)) ⊎
       ((source : Source) × (slice_get sources made ≡ Some source) × IsRefusedRead gives source between refusal now)
 
--- all files were read, or those before a read that was refused, and behind that one there was no other
+-- all files were read, or those before a read that was refused, which was the last one
 abbrev pub EndsAtRefusedRead : {S T : Type 0} → (S → List ℕ → ℕ → Result (List ℕ) ReadErr → S → Type 0) → List Source → S → Result T Refusal → S → Type 0
 EndsAtRefusedRead gives sources before (Ok _) now = AreReads gives sources before (length sources) now
 EndsAtRefusedRead gives sources before (Err refusal) now = StopsReading gives sources before refusal now

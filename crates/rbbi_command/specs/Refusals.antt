@@ -13,13 +13,13 @@ pub record Written : Type 0 where
   pub name : List ℕ
   pub bytes : List ℕ
 
--- an exit status, all that goes out, and the file that is written before, if one is
+-- an exit status, all bytes of the output, and the file that is written before, if one is
 pub record Outcome : Type 0 where
   pub status : ℕ
   pub bytes : List ℕ
   pub file : Option Written
 
--- all is done, these bytes go out, and no file is written
+-- success: these bytes are the output, and no file is written
 abbrev pub printed : List ℕ → Outcome
 printed bytes = record { status = 0; bytes = bytes; file = None }
 
@@ -28,7 +28,7 @@ abbrev pub place_in : List ℕ → Option ℕ → Place
 place_in x None = Whole
 place_in x (Some place) = Within (row_of x place) (column_of x place)
 
--- the name under which a file's faults are told
+-- the name under which a file's faults are reported
 abbrev pub printed_name : Subject → List ℕ
 printed_name Rules = rules_name
 printed_name OtherRules = codes "rules2"
@@ -56,13 +56,13 @@ status_of (Unread name) = 6
 status_of (Fault subject label place) = status_of_subject subject
 status_of Memory = 8
 
--- the line of a refusal; want of memory has none
+-- the line of a refusal; out of memory has none
 abbrev pub line_of : Refusal → List ℕ
 line_of Usage = usage_line
 line_of (Unread name) = unread_line name
 line_of (Fault subject label place) = told_at (printed_name subject) label place
 line_of Memory = []
 
--- what is answered where a run is refused
+-- the outcome of a run that is refused
 abbrev pub refused : Refusal → Outcome
 refused refusal = record { status = status_of refusal; bytes = line_of refusal; file = None }

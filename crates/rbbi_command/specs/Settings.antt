@@ -44,12 +44,12 @@ spelled (CountIn unit) = codes "--units" ∷ unit_word unit ∷ []
 spelled (Suppress file) = codes "--suppress" ∷ file ∷ []
 spelled (Tailor file) = codes "--tailor" ∷ file ∷ []
 
--- whether the option hands in a property file
+-- whether the option names a property file
 abbrev pub is_property : Setting → Bool
 is_property (HandIn property) = true
 is_property setting = false
 
--- the property file that an option hands in
+-- the property file that an option names
 abbrev pub property_of : Setting → Option Property
 property_of (HandIn property) = Some property
 property_of setting = None
@@ -68,7 +68,7 @@ is_by_table setting = false
 abbrev pub are_by_table : List Setting → Bool
 are_by_table settings = list_any is_by_table settings
 
--- whether the option says how boundaries are told: in a unit, or through a filter
+-- whether the option says how boundaries are reported: in a unit, or through a filter
 abbrev pub is_telling : Setting → Bool
 is_telling (CountIn unit) = true
 is_telling (Suppress file) = true
@@ -97,11 +97,9 @@ filter_of settings = fold (λ filter setting. option_or (filter_in setting) filt
 -- the file that an option names to be read
 abbrev pub source_in : Setting → Option Source
 source_in (HandIn property) = Some (record { role = role.Property; name = property.file })
-source_in IgnoreDictionary = None
-source_in ByTable = None
-source_in (CountIn unit) = None
 source_in (Suppress file) = Some (record { role = role.Filter; name = file })
 source_in (Tailor file) = Some (record { role = role.Filter; name = file })
+source_in setting = None
 
 -- what options come to: the files that they name to be read, the property files among them, whether `$dictionary` is a variable like
 -- others, whether the first operand is a table file, the unit of places, numbers and lengths, and what the filter file has, if there is one
@@ -128,27 +126,23 @@ options_of settings =
 abbrev pub are_few : List Setting → Bool
 are_few settings = nat_le (count_by is_property settings) 16 && nat_le (count_by is_ignoring settings) 1
 
--- Whether the options say by what boundaries come: a table file, and then of the others those alone may be there that say how boundaries
--- are told; or rules.
+-- Whether the options say what defines the boundaries: a table file, and then only options on how boundaries are reported may be there
+-- too; or rules.
 abbrev pub are_basis : List Setting → Bool
 are_basis settings = if are_by_table settings then length settings - count_by is_telling settings == 1 else are_few settings
 
 -- Whether a command that takes such options takes these: none; those on rule files; or also the one that says that there is a table; or
--- one besides that says how boundaries are told.
+-- besides one on how boundaries are reported.
 abbrev pub are_taken : Takes → List Setting → Bool
 are_taken NoOptions settings = length settings == 0
 are_taken RuleOptions settings = not (are_by_table settings) && are_few settings && (count_by is_telling settings == 0)
 are_taken RuleOptionsOrTable settings = are_basis settings && (count_by is_telling settings == 0)
 are_taken RuleOptionsOrTableAndTelling settings = are_basis settings && nat_le (count_by is_telling settings) 1
 
--- the word begins as an option does
-abbrev pub IsOption : List ℕ → Type 0
-IsOption word = (rest : List ℕ) × (word ≡ codes "--" ++ rest)
-
--- the first word, if there is one, doesn't begin as an option does
+-- the first word, if there is one, doesn't begin with `--`
 abbrev pub BeginsWithoutOption : List (List ℕ) → Type 0
 BeginsWithoutOption [] = Unit {0}
-BeginsWithoutOption (word ∷ words) = ¬ IsOption word
+BeginsWithoutOption (word ∷ words) = (rest : List ℕ) → word ≢ codes "--" ++ rest
 
 -- the words are these options, and then these further words, of which the first doesn't begin as an option does
 pub record BeginWithSettings (words : List (List ℕ)) (settings : List Setting) (rest : List (List ℕ)) : Type 0 where

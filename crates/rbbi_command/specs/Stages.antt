@@ -1,4 +1,4 @@
--- A stage of a run passes with a value, or refuses. Of several stages in a row the first that refuses decides.
+-- A stage of a run passes with a value, or refuses. Of consecutive stages the first that refuses decides.
 use Rattle.std.specs.Prelude.{◌≡◌, ◌⊎◌}
 use Rattle.rbbi_command.specs.declared.refusal.Refusal.{Refusal}
 

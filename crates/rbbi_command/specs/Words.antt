@@ -1,5 +1,5 @@
 -- The forms of the command line.
-use Rattle.std.specs.Prelude.{◌≡◌, Bool, true, false, List, [], ◌∷◌, ℕ, length, codes}
+use Rattle.std.specs.Prelude.{◌≡◌, Bool, true, if◌then◌else◌, List, [], ◌∷◌, ℕ, length, codes}
 use Rattle.rbbi_command.specs.declared.words.command.Command.{Command}
 use Rattle.rbbi_command.specs.declared.words.command.Command.TheVariants.{Check, Compile, Upgrade, Same, Breaks, Run, Conform, Tally, Demo}
 use Rattle.rbbi_command.specs.declared.words.command.Takes.{Takes}
@@ -41,14 +41,10 @@ operands_of Check by_table = Read Rules ∷ []
 operands_of Compile by_table = Read Rules ∷ Written ∷ []
 operands_of Upgrade by_table = Read Table ∷ Written ∷ []
 operands_of Same by_table = Read Rules ∷ Read OtherRules ∷ []
-operands_of Breaks false = Read Rules ∷ Read Text ∷ []
-operands_of Breaks true = Read Table ∷ Read Text ∷ []
-operands_of Run false = Read Rules ∷ Read Text ∷ Read Script ∷ []
-operands_of Run true = Read Table ∷ Read Text ∷ Read Script ∷ []
-operands_of Conform false = Read Rules ∷ Read Tests ∷ []
-operands_of Conform true = Read Table ∷ Read Tests ∷ []
-operands_of Tally false = Read Rules ∷ Read Text ∷ Read Script ∷ []
-operands_of Tally true = Read Table ∷ Read Text ∷ Read Script ∷ []
+operands_of Breaks by_table = Read (if by_table then Table else Rules) ∷ Read Text ∷ []
+operands_of Run by_table = Read (if by_table then Table else Rules) ∷ Read Text ∷ Read Script ∷ []
+operands_of Conform by_table = Read (if by_table then Table else Rules) ∷ Read Tests ∷ []
+operands_of Tally by_table = Read (if by_table then Table else Rules) ∷ Read Text ∷ Read Script ∷ []
 operands_of Demo by_table = Count ∷ []
 
 -- the word is of the operand's form: any word names a file
@@ -63,13 +59,13 @@ AllFit [] words = Unit {0}
 AllFit (operand ∷ operands) [] = Unit {0}
 AllFit (operand ∷ operands) (word ∷ words) = Fits operand word × AllFit operands words
 
--- what the words ask for: a command, what its options come to, and its operands
+-- what the arguments ask for: a command, what its options mean, and its operands
 pub record Request : Type 0 where
   pub command : Command
   pub options : Options
   pub operands : List (List ℕ)
 
--- The words are a command, options that it takes, and just its operands, each of its form. The first operand doesn't begin as an
+-- The arguments are a command, options that it takes, and just its operands, each of its form. The first operand doesn't begin as an
 -- option does.
 pub record IsCommandLine (words : List (List ℕ)) (request : Request) : Type 0 where
   pub settings : List Setting
@@ -81,6 +77,6 @@ pub record IsCommandLine (words : List (List ℕ)) (request : Request) : Type 0 
   pub count : length request.operands ≡ length (operands_of request.command request.options.by_table)
   pub fit : AllFit (operands_of request.command request.options.by_table) request.operands
 
--- the words are of no stated form
+-- the arguments are invalid
 abbrev pub AreNoForm : List (List ℕ) → Type 0
 AreNoForm words = (request : Request) → ¬ IsCommandLine words request

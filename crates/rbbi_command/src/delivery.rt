@@ -1,4 +1,4 @@
-//! What is written of an output: its file first, and then what goes out.
+//! What is written of an output: its file first, and then its bytes.
 ghost use Rattle.std.specs.Prelude.{◌≡◌, ◌≤◌, ◌⊎◌, IsErrOf, OnSome};
 ghost use Rattle.rbbi_io.specs.declared.error.WriteErr.TheVariants.{Failed};
 ghost use Rattle.rbbi_io.specs.Counts.{Rose, GoesOn, EachGoesOn, EachStays};
@@ -30,9 +30,9 @@ fn write_file<F: Files>(file: &Option<Written>, files: &mut F) -> Result<(), Wri
     }
 }
 
-/// Writes the file of an output, if it has one, and then puts what goes out; where the file isn't
-/// written, nothing goes out. The result is the exit status: that of the output, 7 where the write
-/// or a put failed, or 8 where memory ran out.
+/// Writes the file of an output, if it has one, and then the output's bytes. If the file isn't
+/// written, no byte is. The result is the exit status: that of the output, 7 if the write or a put
+/// failed, or 8 if memory ran out.
 pub fn deliver<F: Files, K: Sink>(output: &Output, files: &mut F, out: &mut K) -> u8
     requires { output.now.status ≤ 6 }
     ensures status { (result ≡ output.now.status) ⊎ ((result ≡ 7) ⊎ (result ≡ 8)) }

@@ -1,4 +1,4 @@
-//! The files that words name to be read, in order, each with its limit.
+//! The files that the arguments name to be read, each with its limit.
 ghost use Rattle.std.specs.Prelude.{◌≡◌, IfOk, IfErr, OnOk, OnSome};
 ghost use Rattle.rbbi_io.specs.Counts.{EachGoesOn, EachStays, OthersStay};
 ghost use Rattle.rbbi_command.specs.Files as spec;
@@ -53,7 +53,7 @@ impl Role {
         }
     }
 
-    /// What the faults of the file with this name are told of.
+    /// The file that faults in this role are reported for.
     fn subject(self, alloc: Global, name: &str) -> Result<Subject, AllocError>
         ensures { IfOk result (λ subject. subject ≡ spec.subject_of self name.now) }
     {

@@ -12,7 +12,7 @@ use rbbi_io::Files;
 use rbbi_text::Raw;
 use std::alloc::{AllocError, Global};
 
-/// A file that is told by its name.
+/// A file whose faults are reported under its name.
 #[derive(Debug, Drop)]
 pub struct Input {
     pub name: Name,
@@ -94,8 +94,8 @@ impl Inputs {
     }
 }
 
-/// Reads the files in order, each once, and tells what each is to the program. The first that can't
-/// be read or is too long ends the reading: it is the one that is told, and no read comes after it.
+/// Reads the files in order, each once, into the places of their roles. The first that can't be
+/// read or is too long ends the reading: it is reported, and no read comes after it.
 pub fn read_all<F: Files>(
     alloc: Global,
     sources: &[Source],

@@ -1,8 +1,8 @@
-//! What a command of `rbbi` is: the words that ask for it, the files that it reads, why it ends
+//! What a command of `rbbi` is: the arguments that ask for it, the files that it reads, why it ends
 //! without an output, and how its output is written. No compiler and no engine is known here.
 //!
 //! `words` has the commands, their options and their operands as data, `files` the limits of what
-//! is read, `refusal` all that ends a run, and `delivery` writes what a command comes to.
+//! is read, `refusal` all that ends a run, and `delivery` writes the output of a command.
 #![tactic(auto)]
 
 mod delivery;

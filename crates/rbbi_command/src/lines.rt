@@ -1,4 +1,4 @@
-//! Lines that go out.
+//! Lines of output.
 ghost use Rattle.std.specs.Prelude.{◌≡◌, IfOk};
 ghost use Rattle.std.specs.List.{flat_map};
 

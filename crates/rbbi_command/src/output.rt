@@ -1,4 +1,4 @@
-//! What a command comes to.
+//! The output of a command.
 
 use crate::Name;
 use std::marker::Model;
@@ -20,12 +20,12 @@ impl Model for Written {
     ghost view = { λ written. record { name = written.name; bytes = written.bytes.items } };
 }
 
-/// What a command comes to. Contracts see the status, the bytes and the file.
+/// The output of a command. Contracts see the status, the bytes and the file.
 #[derive(Debug, Drop)]
 pub struct Output {
     /// The exit status.
     pub status: u8,
-    /// What goes out.
+    /// What is written to standard output.
     pub bytes: Vec<u8>,
     /// The file that is written before, if one is.
     pub file: Option<Written>,
@@ -48,7 +48,7 @@ impl Output {
     ghost use Rattle.std.specs.Prelude.{◌≡◌};
     ghost use Rattle.rbbi_command.specs.Refusals.{printed};
 
-    /// All is done, and these bytes go out.
+    /// Success, with these bytes as the output.
     pub fn printed(bytes: Vec<u8>) -> Output
         ensures { result ≡ printed bytes.items }
     {

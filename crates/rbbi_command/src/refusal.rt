@@ -6,9 +6,9 @@ ghost use Rattle.rbbi_command.specs.Refusals as spec;
 
 use crate::{Name, joined};
 use itoa::Buffer;
-use std::alloc::{AllocError, AllocFailed, Global};
+use std::alloc::{AllocError, Global};
 
-/// The file that a fault is told of.
+/// The file that a fault is reported for.
 #[derive(Debug, Drop)]
 pub enum Subject {
     /// The rule file, or the first of two.
@@ -17,7 +17,7 @@ pub enum Subject {
     OtherRules,
     /// The table file.
     Table,
-    /// A file that is told by its name.
+    /// A file that is reported under its name.
     File(Name),
 }
 
@@ -37,7 +37,7 @@ pub enum Place {
 /// What ends a run before its output.
 #[derive(Debug, Drop)]
 pub enum Refusal {
-    /// The words are of no stated form.
+    /// The arguments are invalid.
     Usage,
     /// The read of the file with this name failed.
     Unread(Name),
@@ -59,16 +59,8 @@ impl From<AllocError> for Refusal {
     }
 }
 
-impl<T: Drop> From<AllocFailed<T>> for Refusal {
-    ghost from_gives = { λ _ e. e ≡ refusal.Memory };
-
-    fn from(_error: AllocFailed<T>) -> Refusal {
-        Refusal::Memory
-    }
-}
-
 impl Subject {
-    /// The name under which faults are told.
+    /// The name under which faults are reported.
     fn printed_name(&self) -> &str
         ensures { result.now ≡ spec.printed_name self.now }
     {
@@ -92,7 +84,7 @@ impl Subject {
     }
 }
 
-/// A fault of this label, or want of memory.
+/// A fault of this label, or `Memory`.
 pub fn fault(alloc: Global, subject: Subject, label: &str, place: Place) -> Refusal
     ensures { (result ≡ Refusal.Memory) ⊎ (result ≡ Refusal.Fault subject label.now place) }
 {
@@ -106,7 +98,7 @@ pub fn fault(alloc: Global, subject: Subject, label: &str, place: Place) -> Refu
     }
 }
 
-/// A fault of this label in the file of this name, or want of memory.
+/// A fault of this label in the file of this name, or `Memory`.
 pub fn file_fault(alloc: Global, name: &str, label: &str, place: Place) -> Refusal
     ensures { (result ≡ Refusal.Memory)
         ⊎ (result ≡ Refusal.Fault (file.File name.now) label.now place) }
@@ -156,7 +148,7 @@ impl Refusal {
         }
     }
 
-    /// All that is written. Of want of memory nothing is.
+    /// All that is written: for `Memory` nothing.
     pub fn line(&self, alloc: Global) -> Result<Vec<u8>, AllocError>
         ensures { IfOk result (λ line. line.items ≡ spec.line_of self.now) }
     {

@@ -57,7 +57,7 @@ fn add_operands(
     Ok(())
 }
 
-/// The files that a request names to be read, in the order of the words.
+/// The files that a request names to be read, in the order of the arguments.
 pub fn sources_of(alloc: Global, request: &Request) -> Result<Vec<Source>, AllocError>
     requires { length request.now.operands.now
         ≡ length (operands_of request.now.command request.now.options.by_table) }

@@ -7,7 +7,7 @@ use Rattle.std.proofs.lemmas.Bool.{cases_Bool, cases_lt}
 use Rattle.std.proofs.lemmas.Bool.Decides.{nat_tests}
 use Rattle.std.proofs.lemmas.List.Sums.{fails_before_first, passes_at_first, prefix_len-le-length}
 use Rattle.std.proofs.lemmas.List.Splits.{slice_split_none, slice_split_first}
-use Rattle.std.proofs.lemmas.List.{length-drop, length-take-le, take_all}
+use Rattle.std.proofs.lemmas.List.{drop_all, length-take-le, take_all}
 use Rattle.rbbi_text.specs.LineParts.{is_blank}
 use Rattle.rbbi_conform.specs.Grammar.{words_of}
 
@@ -29,7 +29,7 @@ words_trimmed (b ∷ text) =
       | inr other ↦ ap (λ n. words_of (drop n (b ∷ text))) (sym (ap (λ t. cond t (1 + prefix_len is_blank text) 0) other))
     ]
 
--- behind the blanks stands nothing, or a byte that is none
+-- after the blanks comes nothing, or a byte that is none
 pub trimmed : (text : List ℕ) → prefix_len is_blank (drop (prefix_len is_blank text) text) ≡ 0
 trimmed [] = refl
 trimmed (b ∷ text) =
@@ -58,14 +58,7 @@ filled_first word words l = ap (λ t. cond (not t) (word ∷ filter filled words
     nonempty : (n : ℕ) → 0 < n → eqb n 0 ≡ false
     nonempty n l = grind (arith, nat_tests)
 
-nothing : (xs : List ℕ) → length xs ≡ 0 → xs ≡ []
-nothing [] l = refl
-nothing (x ∷ xs) l = absurd (omega arith)
-
-ended : (xs : List ℕ) (n : ℕ) → length xs ≤ n → drop n xs ≡ []
-ended xs n l = nothing (drop n xs) (let k = length-drop n xs in omega arith)
-
--- the first word, and the words behind it
+-- the first word, and the words after it
 pub first_word : (text : List ℕ) (end : ℕ) → end ≡ position_or_len is_blank text → 0 < end → words_of text ≡ take end text ∷ words_of (drop end text)
 first_word text end is some =
     elim (cases_lt (position_or_len is_blank text) (length text)) [
@@ -84,5 +77,5 @@ first_word text end is some =
           ap (filter filled) (slice_split_none is_blank text (λ k d l. fails_before_first is_blank text k d (omega arith)))
           ∙ filled_first text [] (omega arith)
           ∙ ap (λ t. t ∷ []) (sym (take_all end text (omega arith)))
-          ∙ ap (λ t. take end text ∷ words_of t) (sym (ended text end (omega arith)))
+          ∙ ap (λ t. take end text ∷ words_of t) (sym (drop_all end text (omega arith)))
     ]

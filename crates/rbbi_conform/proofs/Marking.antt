@@ -2,7 +2,7 @@
 use Rattle.std.proofs.Common.{◌≡◌, ℕ, ◌+◌, ◌*◌, ◌≤◌, Bool, List, [], ◌∷◌, ◌++◌, length, refl, ap, sym, subst, ◌∙◌, append_assoc, append-nil, length-append}
 use Rattle.std.proofs.Common.{arith}
 use Rattle.rbbi_conform.specs.Grammar.{words_of, IsHexadecimalOf, ArePairs}
-use Rattle.rbbi_conform.specs.inner.Readings.{IsFirstWord, IsNoPair, IsPairOf, AreMarkedBy, AreUnmarked}
+use Rattle.rbbi_conform.specs.inner.Readings.{IsFirstWord, IsNoPair, IsPairOf, AreMarkedBy}
 
 -- So many pairs were read, and these words are left.
 pub record IsMarking (words text : List ℕ) (marks : List Bool) (rest : List ℕ) : Type 0 where
@@ -57,7 +57,7 @@ IsMarking-more words text marks rest point after c mark left h first pair = reco
 
 -- no pair follows
 pub IsMarking-bad : (words text : List ℕ) (marks : List Bool) (rest point after : List ℕ) → IsMarking words text marks rest → IsFirstWord rest point after →
-    IsNoPair point (words_of after) → AreUnmarked words
+    IsNoPair point (words_of after) → (all : List ℕ) (those : List Bool) → ¬ ArePairs (words_of words) all those
 IsMarking-bad words text marks rest point after h first none all those pairs =
     let before = h.back all those pairs in
     refused before.0 before.1 before.2

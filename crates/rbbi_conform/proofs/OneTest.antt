@@ -1,7 +1,8 @@
 -- A line of a test file is one thing: skipped, or one test, or neither.
-use Rattle.std.proofs.Common.{◌≡◌, ℕ, Bool, true, false, ◌&&◌, List, [], ◌∷◌, get_or, refl, ap, sym, subst, ◌∙◌, arith}
+use Rattle.std.proofs.Common.{◌≡◌, ℕ, Bool, true, false, List, [], ◌∷◌, get_or, refl, ap, sym, subst, ◌∙◌, arith}
 use Rattle.std.specs.Prelude.{Some}
 use Rattle.std.specs.List.{list_all}
+use Rattle.std.proofs.lemmas.Bool.{and_parts, false≢true}
 use Rattle.rbbi_text.specs.LineParts.{is_blank, before_comment, is_skipped}
 use Rattle.rbbi_text.specs.declared.line_values.Line.{Line}
 use Rattle.rbbi_text.specs.declared.line_values.Line.TheVariants.{Skipped, Writes, Bad}
@@ -26,8 +27,8 @@ same_mark word false false is is' = refl
 parts_of : (p p' s s' : List ℕ) (r r' : List (List ℕ)) → p ∷ s ∷ r ≡ p' ∷ s' ∷ r' → (p ≡ p') × (s ≡ s') × (r ≡ r')
 parts_of p p' s s' r r' e = (cc, cc, cc)
 
-no_words : (p s : List ℕ) (r : List (List ℕ)) → p ∷ s ∷ r ≡ [] → ⊥
-no_words p s r e = cc
+no_first : (w : List ℕ) (ws : List (List ℕ)) → w ∷ ws ≡ [] → ⊥
+no_first w ws e = cc
 
 -- words are one list of pairs at most
 same_pairs : (words : List (List ℕ)) (text text' : List ℕ) (marks marks' : List Bool) → ArePairs words text marks → ArePairs words text' marks'
@@ -35,10 +36,10 @@ same_pairs : (words : List (List ℕ)) (text text' : List ℕ) (marks marks' : L
 same_pairs words [] [] [] [] is is' = (refl, refl)
 same_pairs words [] (d ∷ text') [] [] is is' = absurd is'
 same_pairs words [] [] [] (n ∷ marks') is is' = absurd is'
-same_pairs words [] (d ∷ text') [] (n ∷ marks') is (p', s', r', e', point', sign', more') = absurd (no_words p' s' r' (sym e' ∙ is))
+same_pairs words [] (d ∷ text') [] (n ∷ marks') is (p', s', r', e', point', sign', more') = absurd (no_first p' (s' ∷ r') (sym e' ∙ is))
 same_pairs words [] text' (m ∷ marks) marks' is is' = absurd is
 same_pairs words (c ∷ text) text' [] marks' is is' = absurd is
-same_pairs words (c ∷ text) [] (m ∷ marks) [] (p, s, r, e, point, sign, more) is' = absurd (no_words p s r (sym e ∙ is'))
+same_pairs words (c ∷ text) [] (m ∷ marks) [] (p, s, r, e, point, sign, more) is' = absurd (no_first p (s ∷ r) (sym e ∙ is'))
 same_pairs words (c ∷ text) (d ∷ text') (m ∷ marks) [] is is' = absurd is'
 same_pairs words (c ∷ text) [] (m ∷ marks) (n ∷ marks') is is' = absurd is'
 same_pairs words (c ∷ text) (d ∷ text') (m ∷ marks) (n ∷ marks') (p, s, r, e, point, sign, more) (p', s', r', e', point', sign', more') =
@@ -59,46 +60,29 @@ same_marked line text text' marks marks' is is' =
     (subst (λ ws. ArePairs ws text marks) (tails is.sign is'.sign is.rest is'.rest (sym is.words ∙ is'.words)) is.pairs) is'.pairs
 
 same_test : (one other : Test) → one.line ≡ other.line → one.text ≡ other.text → one.marks ≡ other.marks → one ≡ other
-same_test one other line text marks =
-    ap (λ (l : ℕ). let t : Test = record { line = l; text = one.text; marks = one.marks } in t) line
-    ∙ ap (λ (x : List ℕ). let t : Test = record { line = other.line; text = x; marks = one.marks } in t) text
-    ∙ ap (λ (m : List Bool). let t : Test = record { line = other.line; text = other.text; marks = m } in t) marks
-
-and_left : (a b : Bool) → (a && b) ≡ true → a ≡ true
-and_left true b e = refl
-and_left false b e = absurd (let clash : false ≡ true = e in cc)
-
-and_right : (a b : Bool) → (a && b) ≡ true → b ≡ true
-and_right true b e = e
-and_right false b e = absurd (let clash : false ≡ true = e in cc)
+same_test one other line text marks = λ i. record { line = line i; text = text i; marks = marks i }
 
 -- blanks alone are no words
 blank_words : (text : List ℕ) → list_all is_blank text ≡ true → words_of text ≡ []
 blank_words [] blank = refl
 blank_words (b ∷ text) blank =
-    words_behind b text (and_left (is_blank b) (list_all is_blank text) blank)
-    ∙ blank_words text (and_right (is_blank b) (list_all is_blank text) blank)
-
-no_first : (w : List ℕ) (ws : List (List ℕ)) → w ∷ ws ≡ [] → ⊥
-no_first w ws e = cc
+    let parts = and_parts (is_blank b) (list_all is_blank text) blank in
+    words_behind b text parts.0 ∙ blank_words text parts.1
 
 -- a line that is skipped writes no test
 skipped_or_written : (line text : List ℕ) (marks : List Bool) → is_skipped line ≡ true → WritesTest line text marks → ⊥
 skipped_or_written line text marks skipped is = no_first is.sign is.rest (sym is.words ∙ blank_words (before_comment line) skipped)
 
-same_true : (b : Bool) → b ≡ true → b ≡ false → ⊥
-same_true b is is' = cc
-
 -- a line is one thing
 pub same_line : (line : List ℕ) (number : ℕ) (one other : Line Test) → IsTestLine line number one → IsTestLine line number other → one ≡ other
 same_line line number Skipped Skipped is is' = refl
 same_line line number Skipped (Writes test') is is' = absurd (skipped_or_written line test'.text test'.marks is is'.0)
-same_line line number Skipped Bad is is' = absurd (same_true (is_skipped line) is is'.0)
+same_line line number Skipped Bad is is' = absurd (false≢true (sym is'.0 ∙ is))
 same_line line number (Writes test) Skipped is is' = absurd (skipped_or_written line test.text test.marks is' is.0)
 same_line line number (Writes test) (Writes test') is is' =
     let same = same_marked line test.text test'.text test.marks test'.marks is.0 is'.0 in
     ap Writes (same_test test test' (is.1 ∙ sym is'.1) same.0 same.1)
 same_line line number (Writes test) Bad is is' = absurd (is'.1 test.text test.marks is.0)
-same_line line number Bad Skipped is is' = absurd (same_true (is_skipped line) is' is.0)
+same_line line number Bad Skipped is is' = absurd (false≢true (sym is.0 ∙ is'))
 same_line line number Bad (Writes test') is is' = absurd (is.1 test'.text test'.marks is'.0)
 same_line line number Bad Bad is is' = refl

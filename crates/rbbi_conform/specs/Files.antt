@@ -15,6 +15,6 @@ IsTestLine line number (Writes test) = WritesTest line test.text test.marks × (
 IsTestLine line number Bad = (is_skipped line ≡ false) × ((text : List ℕ) (marks : List Bool) → ¬ WritesTest line text marks)
 
 -- What reading a test file answers: the tests that its lines write, in order, where each line is skipped or writes one. Otherwise the
--- first byte past the longest front that is UTF-8, or the first line that is neither.
+-- first byte past the longest prefix that is UTF-8, or the first line that is neither.
 abbrev pub ReadsTests : List ℕ → Result (List Test) LinesErr → Type 0
 ReadsTests bytes answer = ReadsLines IsTestLine bytes answer

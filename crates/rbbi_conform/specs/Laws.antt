@@ -8,7 +8,7 @@ use Rattle.rbbi_conform.specs.Tests.{Test}
 use Rattle.rbbi_conform.specs.Files.{ReadsTests}
 use Rattle.rbbi_conform.specs.Verdicts.{IsVerdict}
 
--- bytes have one answer, but for want of memory: they are the file of one list of tests, or one fault is told
+-- bytes have one answer but for `Memory`: they are the file of one list of tests, or they have one fault
 abbrev pub HaveOneTestList : Type 0
 HaveOneTestList =
     (bytes : List ℕ) (one other : Result (List Test) LinesErr) → ReadsTests bytes one → ReadsTests bytes other

@@ -5,8 +5,8 @@ ghost use Rattle.rbbi_model.specs.Boundaries.{Boundary};
 ghost use Rattle.rbbi_conform.specs.Tests.{Test};
 ghost use Rattle.rbbi_conform.specs.Laws.{HaveOneTestList, HasOneVerdict};
 
-/// Law: bytes have one answer, but for want of memory: they are the file of one list of tests, or
-/// one fault is told.
+/// Law: bytes have one answer but for `Memory`: they are the file of one list of tests, or they
+/// have one fault.
 pub fn one_tests()
     ensures { HaveOneTestList }
 {}

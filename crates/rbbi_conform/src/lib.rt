@@ -1,7 +1,7 @@
 //! Conformance tests: texts whose places are marked as boundaries or not, and the verdict on one.
 //!
-//! [`read_tests`] takes the bytes of a test file as its tests, or tells the first bad line.
-//! [`judge`] tells the first place at which a table and a test differ.
+//! [`read_tests`] reads the tests of a test file, or reports its first bad line. [`judge`] finds
+//! the first place at which a table and a test differ.
 #![tactic(auto)]
 
 mod laws;

@@ -1,11 +1,12 @@
 //! A line of a test file.
-ghost use Rattle.std.specs.Prelude.{◌≡◌, ◌≤◌, [], length, IfOk, MatchOption, chars, string_bytes};
+ghost use Rattle.std.specs.Prelude.{◌≡◌, ◌≤◌, [], ℕ, Bool, List, length, IfOk, MatchOption};
+ghost use Rattle.std.specs.Prelude.{chars, string_bytes};
 ghost use Rattle.std.specs.List.{position_or_len};
 ghost use Rattle.rbbi_text.specs.LineParts as line_parts;
-ghost use Rattle.rbbi_conform.specs.Grammar.{words_of};
-ghost use Rattle.rbbi_conform.specs.inner.Readings.{IsFirstWord, IsMarkOf, IsCharacterOf, IsNoPair};
-ghost use Rattle.rbbi_conform.specs.inner.Readings.{IsPairOf, IsMarkedOf, IsUnmarked, AreMarkedBy};
-ghost use Rattle.rbbi_conform.specs.inner.Readings.{AreUnmarked};
+ghost use Rattle.rbbi_conform.specs.Grammar.{words_of, IsMark, IsHexadecimalOf, ArePairs};
+ghost use Rattle.rbbi_conform.specs.Grammar.{WritesTest};
+ghost use Rattle.rbbi_conform.specs.inner.Readings.{IsFirstWord, IsNoPair, IsPairOf, IsMarkedOf};
+ghost use Rattle.rbbi_conform.specs.inner.Readings.{AreMarkedBy};
 
 use rbbi_text::{before_byte, hexadecimal, is_blank, push_character, trim_start};
 use std::alloc::{AllocError, Global};
@@ -58,7 +59,7 @@ fn first_word(text: &[u8]) -> Option<WordCut<'_>>
 
 /// Whether the word marks a boundary (U+00F7) or none (U+00D7).
 fn mark_of(word: &[u8]) -> Option<bool>
-    ensures { IsMarkOf word.now result }
+    ensures { MatchOption result ((mark : Bool) → ¬ IsMark word.now mark) (IsMark word.now) }
 {
     if word == [0xC3, 0xB7].as_slice() {
         return Some(true);
@@ -71,13 +72,14 @@ fn mark_of(word: &[u8]) -> Option<bool>
 
 /// The character of a word of four to six hexadecimal digits.
 fn character_of(word: &[u8]) -> Option<char>
-    ensures { IsCharacterOf word.now result }
+    ensures { MatchOption result ((c : ℕ) → ¬ IsHexadecimalOf word.now c)
+        (λ c. IsHexadecimalOf word.now c × (4 ≤ length word.now)) }
 {
     let number = hexadecimal(word, 4, 6, LAST)?;
     char::from_u32(number)
 }
 
-/// A code point and the mark behind it, and what follows both.
+/// A code point and the mark after it, and what follows both.
 #[derive(Drop)]
 struct Pair<'a> {
     character: char,
@@ -100,9 +102,10 @@ fn pair_of<'a>(point: &[u8], after: &'a [u8]) -> Option<Pair<'a>>
     })
 }
 
-/// The text and the marks that a line writes, and none where it is of no stated form.
+/// The text and the marks that a line writes, or `None` if it writes no test.
 pub(crate) fn marked_text(alloc: Global, line: &[u8]) -> Result<Option<Marked>, AllocError>
-    ensures { IfOk result (λ found. MatchOption found (IsUnmarked line.now)
+    ensures { IfOk result (λ found. MatchOption found
+        ((text : List ℕ) (marks : List Bool) → ¬ WritesTest line.now text marks)
         (λ marked. IsMarkedOf line.now (chars (string_bytes marked.text)) marked.marks.items)) }
 {
     let Some(first) = first_word(before_byte(line, b'#')) else {
@@ -114,9 +117,10 @@ pub(crate) fn marked_text(alloc: Global, line: &[u8]) -> Result<Option<Marked>, 
     marked_pairs(alloc, first.rest)
 }
 
-/// The text and the marks that the words behind the first mark write.
+/// The text and the marks that the words after the first mark write.
 fn marked_pairs(alloc: Global, words: &[u8]) -> Result<Option<Marked>, AllocError>
-    ensures { IfOk result (λ found. MatchOption found (AreUnmarked words.now)
+    ensures { IfOk result (λ found. MatchOption found
+        ((text : List ℕ) (marks : List Bool) → ¬ ArePairs (words_of words.now) text marks)
         (λ marked. AreMarkedBy words.now (chars (string_bytes marked.text)) marked.marks.items)) }
 {
     let mut text = String::new(alloc);

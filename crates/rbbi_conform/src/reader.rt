@@ -21,7 +21,7 @@ pub type TestErr = LinesErr;
 /// the Unicode Character Database have this form (UAX #29, section 7). The first mark isn't
 /// compared.
 ///
-/// Refuses `NotUtf8` with the first byte past the longest valid front, `BadLine` with the first
+/// Refuses `NotUtf8` with the first byte past the longest valid prefix, `BadLine` with the first
 /// line that is neither skipped nor of this form, and `Memory`.
 pub fn read_tests(alloc: Global, bytes: &[u8]) -> Result<Tests, TestErr>
     requires { length bytes.now ≤ most_bytes }

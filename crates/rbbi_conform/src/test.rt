@@ -4,7 +4,7 @@ ghost use Rattle.std.specs.Prelude.{◌≡◌, ◌-◌, ◌≤◌, length, slice
 use rbbi_text::{PlainText, Values};
 use std::marker::Model;
 
-/// A text, and for each place behind one of its characters whether a boundary is marked there.
+/// A text, and for each place after one of its characters whether a boundary is marked there.
 #[derive(Debug, Drop)]
 pub struct Test {
     line: u32,

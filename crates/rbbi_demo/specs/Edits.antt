@@ -6,7 +6,7 @@ use Rattle.rbbi_model.specs.Answers.{Reply, Place, Following, Preceding, answer}
 use Rattle.rbbi_model.specs.Scripts.{splice}
 use Rattle.rbbi_demo.specs.Generator.{state_drawn, drawn, drawn_character, drawn_text}
 
--- where the edit behind the state begins
+-- where the edit after the state begins
 unfoldable pub edit_place : ℕ → List ℕ → ℕ
 edit_place state x = drawn state 1 % (length x + 1)
 

@@ -10,7 +10,7 @@ unfoldable pub state_drawn : ℕ → ℕ → ℕ
 state_drawn state zero = state
 state_drawn state (suc draws) = next_state (state_drawn state draws)
 
--- The number that a draw gives: that of the draw with this number, from 1, behind the state.
+-- The number that a draw gives: that of the draw with this number, from 1, after the state.
 unfoldable pub drawn : ℕ → ℕ → ℕ
 drawn state number = state_drawn state number / 256
 

@@ -1,4 +1,4 @@
--- What the demonstration of a number comes to.
+-- The result of the demonstration of a number.
 use Rattle.std.specs.Prelude.{◌≡◌, ℕ, zero, suc, ◌+◌, ◌/◌, List, length}
 use Rattle.rbbi_model.specs.Boundaries.{Boundary}
 use Rattle.rbbi_model.specs.Tables.{Table}
@@ -14,7 +14,7 @@ AreTableBoundaries table x boundaries = boundaries ≡ table_boundaries table x
 abbrev pub edit_count : ℕ → ℕ
 edit_count count = count / 100
 
--- A summary depends on what the boundaries of a text are, which a relation tells.
+-- A summary depends on a relation that says what the boundaries of a text are.
 module _ (AreBoundariesOf : List ℕ → List Boundary → Type 0) where
   -- this is the sum of the places answered after so many edits
   abbrev pub IsSum : ℕ → ℕ → ℕ → Type 0

@@ -1,7 +1,7 @@
 //! The demonstration: a session over a text that a generator draws, edited and asked as it draws.
 //!
-//! [`demo`] makes the text from a number, edits it and asks for boundaries, and sums up what came
-//! of it. The same number gives the same [`Summary`] each time.
+//! [`demo`] makes the text from a number, edits it and asks for boundaries. The same number gives
+//! the same [`Summary`] each time.
 #![tactic(auto)]
 
 mod count;

@@ -1,6 +1,6 @@
-//! What a demonstration comes to.
+//! The result of a demonstration.
 
-/// What a demonstration comes to.
+/// The result of a demonstration.
 #[derive(Clone, Copy, Debug)]
 pub struct Summary {
     /// The length of the last text, in characters.

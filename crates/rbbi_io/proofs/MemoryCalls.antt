@@ -1,5 +1,6 @@
 -- What reads and writes of files in memory leave, in the words of files.
-use Rattle.std.proofs.Common.{◌≡◌, ◌≢◌, ◌<◌, ◌≤◌, ◌+◌, ℕ, List, Result, Ok, Err, arith, ap, refl, ◌∙◌, ⊎_elim, inl, inr}
+use Rattle.std.proofs.Common.{◌≡◌, ◌≢◌, ◌<◌, ◌≤◌, ◌++◌, ℕ, List, [], ◌∷◌, Result, Ok, Err, arith, ap, refl, sym, subst, ◌∙◌, ⊎_elim, inl, inr}
+use Rattle.std.specs.Prelude.{count_by, bytes_eq}
 use Rattle.std.proofs.lemmas.Bool.{cases_lt}
 use Rattle.rbbi_io.specs.declared.error.ReadErr.{ReadErr}
 use Rattle.rbbi_io.specs.declared.error.ReadErr.TheVariants as read
@@ -7,35 +8,33 @@ use Rattle.rbbi_io.specs.declared.error.WriteErr.{WriteErr}
 use Rattle.rbbi_io.specs.declared.error.WriteErr.TheVariants as write
 use Rattle.rbbi_io.specs.Counts.{Rose, EachStays, capped, greatest_count}
 use Rattle.rbbi_io.specs.Answers.{LeavesWritten}
-use Rattle.rbbi_io.specs.Memory.{FilesInMemory, ReadsMemory, WritesMemory, failed_reads_of, failed_writes_of, reads_failed, writes_failed, held_by}
-use Rattle.rbbi_io.proofs.FailedCalls.{failed_reads_of-read, failed_reads_of-other, failed_writes_of-write, failed_writes_of-other}
+use Rattle.rbbi_io.specs.Memory.{FilesInMemory, ReadsMemory, WritesMemory, count_of, reads_failed, writes_failed, held_by}
+use Rattle.rbbi_io.proofs.FailedCalls.{failed_again, failed_other}
 use Rattle.rbbi_io.proofs.NamedFiles.{held_by-with_file, held_by-with_other}
 
 -- one more is a rise, also where the count stops
-Rose-one : (before now : ℕ) → now ≡ before + 1 → Rose (capped before) (capped now)
-Rose-one before now e =
+rises : (failed : List (List ℕ)) (name : List ℕ) → Rose (count_of failed name) (count_of (failed ++ name ∷ []) name)
+rises failed name =
+    let before : ℕ = count_by (λ other. bytes_eq other name) failed in
     ⊎_elim
-    (λ (h : before < greatest_count). inl (omega (arith, h, e)))
-    (λ (h : greatest_count ≤ before). inr (omega (arith, h, e)))
+    (λ (h : before < greatest_count). inl (omega (arith, h, failed_again failed name)))
+    (λ (h : greatest_count ≤ before). inr (omega (arith, h, failed_again failed name)))
     (cases_lt before greatest_count)
 
 module _ (old new : FilesInMemory) (name : List ℕ) where
   -- a read that failed is counted
   pub ReadsMemory-failed : (limit : ℕ) (result : Result (List ℕ) ReadErr) → ReadsMemory old name limit result new → result ≡ Err read.Failed →
       Rose (reads_failed old name) (reads_failed new name)
-  ReadsMemory-failed limit (Ok bytes) h e = cc
   ReadsMemory-failed limit (Err read.Failed) h e =
-      Rose-one (failed_reads_of old.failed name) (failed_reads_of new.failed name)
-      (ap (λ m. failed_reads_of m.failed name) h.1 ∙ failed_reads_of-read old.failed name)
-  ReadsMemory-failed limit (Err read.TooLong) h e = cc
-  ReadsMemory-failed limit (Err read.Memory) h e = cc
+      subst (λ m. Rose (reads_failed old name) (reads_failed m name)) (sym h.1) (rises old.failed_reads name)
+  ReadsMemory-failed limit result h e = cc
 
   -- no other name's count changes by a read
   pub ReadsMemory-others : (limit : ℕ) (result : Result (List ℕ) ReadErr) → ReadsMemory old name limit result new → (other : List ℕ) → other ≢ name →
       reads_failed new other ≡ reads_failed old other
   ReadsMemory-others limit (Ok bytes) h other ne = ap (λ m. reads_failed m other) h.3
   ReadsMemory-others limit (Err read.Failed) h other ne =
-      ap (λ m. reads_failed m other) h.1 ∙ ap capped (failed_reads_of-other old.failed name other ne)
+      ap (λ m. reads_failed m other) h.1 ∙ ap capped (failed_other old.failed_reads name other ne)
   ReadsMemory-others limit (Err read.TooLong) h other ne = ap (λ m. reads_failed m other) h.2
   ReadsMemory-others limit (Err read.Memory) h other ne = ap (λ m. reads_failed m other) h
 
@@ -50,18 +49,16 @@ module _ (old new : FilesInMemory) (name : List ℕ) where
   -- a write that failed is counted
   pub WritesMemory-failed : {T : Type 0} (bytes : List ℕ) (result : Result T WriteErr) → WritesMemory old name bytes result new → result ≡ Err write.Failed →
       Rose (writes_failed old name) (writes_failed new name)
-  WritesMemory-failed bytes (Ok _) h e = cc
   WritesMemory-failed bytes (Err write.Failed) h e =
-      Rose-one (failed_writes_of old.failed name) (failed_writes_of new.failed name)
-      (ap (λ m. failed_writes_of m.failed name) h.1 ∙ failed_writes_of-write old.failed name)
-  WritesMemory-failed bytes (Err write.Memory) h e = cc
+      subst (λ m. Rose (writes_failed old name) (writes_failed m name)) (sym h.1) (rises old.failed_writes name)
+  WritesMemory-failed bytes result h e = cc
 
   -- no other name's count changes by a write
   pub WritesMemory-others : {T : Type 0} (bytes : List ℕ) (result : Result T WriteErr) → WritesMemory old name bytes result new → (other : List ℕ) →
       other ≢ name → writes_failed new other ≡ writes_failed old other
   WritesMemory-others bytes (Ok _) h other ne = ap (λ m. writes_failed m other) h.1
   WritesMemory-others bytes (Err write.Failed) h other ne =
-      ap (λ m. writes_failed m other) h.1 ∙ ap capped (failed_writes_of-other old.failed name other ne)
+      ap (λ m. writes_failed m other) h.1 ∙ ap capped (failed_other old.failed_writes name other ne)
   WritesMemory-others bytes (Err write.Memory) h other ne = ap (λ m. writes_failed m other) h
 
   -- what the names hold after a write

@@ -29,6 +29,5 @@ TakesAtMost-more before between now bytes block count limit few most within firs
 pub AnswersRead-refused : (before : Option (List ℕ)) (limit : ℕ) (refusal : ReadErr) → refusal ≢ read.TooLong →
     IfSome before (λ held. AnswersRead held limit (Err refusal))
 AnswersRead-refused None limit refusal other = tt
-AnswersRead-refused (Some held) limit read.Failed other = tt
 AnswersRead-refused (Some held) limit read.TooLong other = absurd (other refl)
-AnswersRead-refused (Some held) limit read.Memory other = tt
+AnswersRead-refused (Some held) limit refusal other = tt

@@ -1,20 +1,20 @@
 -- Files and sinks in memory.
-use Rattle.std.specs.Prelude.{◌≡◌, ◌<◌, ◌≤◌, ◌⊎◌, ◌++◌, ℕ, Bool, true, false, List, [], ◌∷◌, length, Option, Some, None, Result, Ok, Err, bytes_eq}
-use Rattle.std.specs.Prelude.{if◌then◌else◌, ◌&&◌, unwrap_or, count_by, Contains, min, take}
+use Rattle.std.specs.Prelude.{◌≡◌, ◌<◌, ◌≤◌, ◌⊎◌, ◌++◌, ℕ, List, [], ◌∷◌, length, Option, Some, None, Result, Ok, Err, bytes_eq}
+use Rattle.std.specs.Prelude.{if◌then◌else◌, unwrap_or, count_by, Contains, min, take}
 use Rattle.rbbi_io.specs.Counts.{capped, one_more}
-use Rattle.rbbi_io.specs.declared.mem_files.CallKind.{CallKind}
-use Rattle.rbbi_io.specs.declared.mem_files.CallKind.TheVariants.{Read, Write}
 use Rattle.rbbi_io.specs.declared.error.ReadErr.{ReadErr}
 use Rattle.rbbi_io.specs.declared.error.ReadErr.TheVariants as read
 use Rattle.rbbi_io.specs.declared.error.WriteErr.{WriteErr}
 use Rattle.rbbi_io.specs.declared.error.WriteErr.TheVariants as write
 
--- files in memory: each name with its bytes, how many calls there were, which are to fail, and the name and kind of each that failed
+-- files in memory: each name with its bytes, how many calls there were, which are to fail, and the names of the reads and the writes that
+-- failed
 pub record FilesInMemory : Type 0 where
   pub files : List (List ℕ × List ℕ)
   pub calls : ℕ
   pub failing : List ℕ
-  pub failed : List (List ℕ × CallKind)
+  pub failed_reads : List (List ℕ)
+  pub failed_writes : List (List ℕ)
 
 -- a sink in memory: the bytes it took, how many calls there were, which are to fail, how many failed, and how many bytes a put takes at most
 pub record SinkInMemory : Type 0 where
@@ -48,29 +48,17 @@ with_file (file ∷ files) name bytes = if bytes_eq file.0 name then (file.0, by
 abbrev pub held_by : List (List ℕ × List ℕ) → List ℕ → List ℕ
 held_by files name = unwrap_or (file_of files name) []
 
-abbrev pub is_read : CallKind → Bool
-is_read Read = true
-is_read Write = false
+-- how many of the failed calls were of this name, as far as the count goes
+abbrev pub count_of : List (List ℕ) → List ℕ → ℕ
+count_of failed name = capped (count_by (λ other. bytes_eq other name) failed)
 
-abbrev pub is_write : CallKind → Bool
-is_write Read = false
-is_write Write = true
-
--- how many reads of this name failed
-abbrev pub failed_reads_of : List (List ℕ × CallKind) → List ℕ → ℕ
-failed_reads_of failed name = count_by (λ call. is_read call.1 && bytes_eq call.0 name) failed
-
--- how many writes of this name failed
-abbrev pub failed_writes_of : List (List ℕ × CallKind) → List ℕ → ℕ
-failed_writes_of failed name = count_by (λ call. is_write call.1 && bytes_eq call.0 name) failed
-
--- how many reads of each name failed, as far as the count goes
+-- how many reads of each name failed
 abbrev pub reads_failed : FilesInMemory → List ℕ → ℕ
-reads_failed memory name = capped (failed_reads_of memory.failed name)
+reads_failed memory name = count_of memory.failed_reads name
 
--- how many writes of each name failed, as far as the count goes
+-- how many writes of each name failed
 abbrev pub writes_failed : FilesInMemory → List ℕ → ℕ
-writes_failed memory name = capped (failed_writes_of memory.failed name)
+writes_failed memory name = count_of memory.failed_writes name
 
 -- the next call is one of those that are to fail
 abbrev pub IsToFail : List ℕ → ℕ → Type 0
@@ -80,9 +68,13 @@ IsToFail failing calls = Contains failing (one_more calls)
 abbrev pub called : FilesInMemory → FilesInMemory
 called memory = record memory { calls = one_more memory.calls }
 
--- after a call that failed
-abbrev pub failed_call : FilesInMemory → List ℕ → CallKind → FilesInMemory
-failed_call memory name kind = record memory { calls = one_more memory.calls; failed = memory.failed ++ (name, kind) ∷ [] }
+-- after a read that failed
+abbrev pub failed_read : FilesInMemory → List ℕ → FilesInMemory
+failed_read memory name = record memory { calls = one_more memory.calls; failed_reads = memory.failed_reads ++ name ∷ [] }
+
+-- after a write that failed
+abbrev pub failed_write : FilesInMemory → List ℕ → FilesInMemory
+failed_write memory name = record memory { calls = one_more memory.calls; failed_writes = memory.failed_writes ++ name ∷ [] }
 
 -- after a call that wrote these bytes
 abbrev pub written_call : FilesInMemory → List ℕ → List ℕ → FilesInMemory
@@ -93,7 +85,7 @@ abbrev pub ReadsMemory : FilesInMemory → List ℕ → ℕ → Result (List ℕ
 ReadsMemory old name limit (Ok bytes) new =
     ¬ IsToFail old.failing old.calls × (file_of old.files name ≡ Some bytes) × (length bytes ≤ limit) × (new ≡ called old)
 ReadsMemory old name limit (Err read.Failed) new =
-    (IsToFail old.failing old.calls ⊎ (file_of old.files name ≡ None)) × (new ≡ failed_call old name Read)
+    (IsToFail old.failing old.calls ⊎ (file_of old.files name ≡ None)) × (new ≡ failed_read old name)
 ReadsMemory old name limit (Err read.TooLong) new =
     ¬ IsToFail old.failing old.calls × ((bytes : List ℕ) × (file_of old.files name ≡ Some bytes) × (limit < length bytes)) × (new ≡ called old)
 ReadsMemory old name limit (Err read.Memory) new = new ≡ called old
@@ -101,7 +93,7 @@ ReadsMemory old name limit (Err read.Memory) new = new ≡ called old
 -- what a write to files in memory answers and leaves
 abbrev pub WritesMemory : {T : Type 0} → FilesInMemory → List ℕ → List ℕ → Result T WriteErr → FilesInMemory → Type 0
 WritesMemory old name bytes (Ok _) new = ¬ IsToFail old.failing old.calls × (new ≡ written_call old name bytes)
-WritesMemory old name bytes (Err write.Failed) new = IsToFail old.failing old.calls × (new ≡ failed_call old name Write)
+WritesMemory old name bytes (Err write.Failed) new = IsToFail old.failing old.calls × (new ≡ failed_write old name)
 WritesMemory old name bytes (Err write.Memory) new = new ≡ called old
 
 -- what a put into a sink in memory answers and leaves

@@ -8,7 +8,7 @@ pub data ArePut {S : Type 0} (gives : S → List ℕ → Result ℕ WriteErr →
   OneMore : (at n : ℕ) (between now : S) → ArePut gives bytes before at between → gives between (drop at bytes) (Ok n) now →
       ArePut gives bytes before (at + n) now
 
--- All bytes were put, or those before a put that was refused, and behind that one there was no other.
+-- all bytes were put, or those before a put that was refused, which was the last one
 abbrev pub EndsAtRefusal : {S T : Type 0} → (S → List ℕ → Result ℕ WriteErr → S → Type 0) → List ℕ → S → Result T WriteErr → S → Type 0
 EndsAtRefusal gives bytes before (Ok _) now = ArePut gives bytes before (length bytes) now
 EndsAtRefusal {S} gives bytes before (Err error) now =

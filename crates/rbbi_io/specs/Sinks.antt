@@ -5,11 +5,11 @@ use Rattle.std.specs.Prelude.{◌≡◌, ◌≤◌, ◌++◌, ℕ, List, length,
 abbrev pub Takes : Option (List ℕ) → Option (List ℕ) → List ℕ → Type 0
 Takes before now bytes = now ≡ option_map (λ taken. taken ++ bytes) before
 
--- a sink took a front of these bytes, and nothing else
+-- a sink took a prefix of these bytes, and nothing else
 abbrev pub TakesFront : Option (List ℕ) → Option (List ℕ) → List ℕ → Type 0
 TakesFront before now bytes = (n : ℕ) × (n ≤ length bytes) × Takes before now (take n bytes)
 
--- Of the bytes that were made, a sink took a front between two moments, and the others wait.
+-- Of the bytes that were made, a sink took a prefix between two moments, and the others wait.
 pub record IsBuffered (before now : Option (List ℕ)) (made waiting : List ℕ) : Type 0 where
   pub flushed : List ℕ
   pub taken : Takes before now flushed

@@ -12,7 +12,7 @@ use std::alloc::{AllocError, Global};
 use std::marker::Model;
 
 /// Files in memory that never fail. They tell what they hold, and each count of faults is always 0,
-/// so all that they refuse is a file that is too long, and for want of memory.
+/// so they refuse only `TooLong` and `Memory`.
 ///
 /// A name that nobody added or wrote holds no bytes. Reads and writes are counted together, from 1.
 #[derive(Debug, Drop)]

@@ -8,16 +8,16 @@ use std::io;
 use std::io::ErrorKind;
 
 /// A name that is to hold new bytes, the target, and its draft, a new file that takes the name once
-/// it is whole. Contracts see what the two hold, where that is told.
+/// it is whole. Contracts see what the two hold, where the target tells it.
 ///
 /// Only `rename` and `overwrite` change what the target holds, and `overwrite` is called only where
 /// the target can't be replaced. Elsewhere the target holds, wherever a run ends, what it held or
 /// all that the draft held.
 pub(crate) trait Target {
-    /// What the draft holds, or nothing where it isn't told.
+    /// What the draft holds, or nothing if the target doesn't tell.
     ghost drafted: { Self → Option (List ℕ) };
 
-    /// What the target holds, or nothing where it isn't told.
+    /// What the target holds, or nothing if it doesn't tell.
     ghost held: { Self → Option (List ℕ) };
 
     /// The device has all that the draft holds.
@@ -66,7 +66,7 @@ pub(crate) trait Target {
         ensures fixed { is_fixed self.new };
 }
 
-/// Want of memory, or a fault.
+/// `Memory` if memory ran out, and otherwise a fault.
 pub(crate) fn refused_write(fault: &io::Error) -> WriteErr {
     if fault.kind() == ErrorKind::OutOfMemory {
         WriteErr::Memory

@@ -1,5 +1,5 @@
 //! Files and sinks: where bytes come from and go to, with counts of the faults that they had; and
-//! the words of the command line.
+//! the command-line arguments.
 //!
 //! A refusal for a fault is tied to a count, so that no code above can invent one.
 #![tactic(auto)]
@@ -23,7 +23,7 @@ pub use calm_sink::CalmSink;
 pub use command_line::words;
 pub use error::{ReadErr, WriteErr};
 pub use files::Files;
-pub use mem_files::{CallKind, MemFiles};
+pub use mem_files::MemFiles;
 pub use mem_sink::MemSink;
 pub use real_files::{RealFiles, read_at_most};
 pub use real_sink::RealSink;

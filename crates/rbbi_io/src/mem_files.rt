@@ -1,4 +1,4 @@
-//! Files in memory, with calls that fail when they are told to.
+//! Files in memory, with calls that are made to fail.
 ghost use Rattle.std.specs.Prelude.{◌≡◌, ◌≤◌, ◌↔◌, ◌++◌, [], ◌∷◌, length, IsTrue, OnOk, OnErr};
 ghost use Rattle.std.specs.Prelude.{IsErrOf, option_copied};
 ghost use Rattle.rbbi_io.specs.Counts.{Rose, EachStays, OthersStay};
@@ -13,41 +13,19 @@ use rbbi_text::Raw;
 use std::alloc::{AllocError, Global};
 use std::marker::Model;
 
-/// A call of files: a read or a write.
-#[derive(Debug, Drop)]
-pub enum CallKind {
-    Read,
-    Write,
-}
-
-/// A call that failed. Contracts see the name and the kind.
-#[derive(Debug, Drop)]
-struct FailedCall {
-    name: String,
-    kind: CallKind,
-}
-
-impl Model for FailedCall {
-    ghost use Rattle.std.specs.Prelude.{List, ℕ, string_bytes};
-    ghost use Rattle.rbbi_io.specs.declared.mem_files.CallKind.{CallKind};
-
-    ghost Value = { List ℕ × CallKind };
-
-    ghost view = { λ call. (string_bytes call.name, call.kind) };
-}
-
 /// Files in memory. They tell what they hold.
 ///
 /// Reads and writes are counted together, from 1. A call whose number was given to `fail_at` fails,
-/// and so does a read of a name that is not there; the name and kind of each failed call are kept.
-/// A failing call that finds no room for them answers `Memory`.
+/// and so does a read of a name that is not there. The names of failed reads and of failed writes
+/// are kept; a failing call that finds no room for its name answers `Memory`.
 #[derive(Debug, Drop)]
 pub struct MemFiles {
     alloc: Global,
     files: Vec<MemFile>,
     calls: u64,
     failing: Vec<u64>,
-    failed: Vec<FailedCall>,
+    failed_reads: Vec<Raw>,
+    failed_writes: Vec<Raw>,
 }
 
 impl Model for MemFiles {
@@ -59,21 +37,24 @@ impl Model for MemFiles {
       files = memory.files.items;
       calls = memory.calls;
       failing = memory.failing.items;
-      failed = memory.failed.items;
+      failed_reads = memory.failed_reads.items;
+      failed_writes = memory.failed_writes.items;
     } };
 }
 
 impl MemFiles {
     /// Files that hold nothing, with no call that is to fail.
     pub fn new(alloc: Global) -> MemFiles
-        ensures { result ≡ record { files = []; calls = 0; failing = []; failed = [] } }
+        ensures { result ≡ record
+            { files = []; calls = 0; failing = []; failed_reads = []; failed_writes = [] } }
     {
         MemFiles {
             alloc,
             files: Vec::new(alloc),
             calls: 0,
             failing: Vec::new(alloc),
-            failed: Vec::new(alloc),
+            failed_reads: Vec::new(alloc),
+            failed_writes: Vec::new(alloc),
         }
     }
 
@@ -120,14 +101,25 @@ impl MemFiles {
         self.failing.contains(&self.calls)
     }
 
-    /// Keeps the name and the kind of a failed call.
-    fn keep_failure(&mut self, name: &str, kind: CallKind) -> Result<(), AllocError>
-        ensures ok { OnOk result (self.new
-            ≡ record self.old { failed = self.old.failed ++ (name.now, kind) ∷ [] }) }
+    /// Keeps the name of a read that failed.
+    fn keep_failed_read(&mut self, name: &str) -> Result<(), AllocError>
+        ensures ok { OnOk result (self.new ≡ record self.old
+            { failed_reads = self.old.failed_reads ++ name.now ∷ [] }) }
         ensures err { OnErr result (self.new ≡ self.old) }
     {
-        let name = String::from_str(self.alloc, name)?;
-        self.failed.push(FailedCall { name, kind })?;
+        let name = Raw::new(name.as_bytes().to_vec(self.alloc)?);
+        self.failed_reads.push(name)?;
+        Ok(())
+    }
+
+    /// Keeps the name of a write that failed.
+    fn keep_failed_write(&mut self, name: &str) -> Result<(), AllocError>
+        ensures ok { OnOk result (self.new ≡ record self.old
+            { failed_writes = self.old.failed_writes ++ name.now ∷ [] }) }
+        ensures err { OnErr result (self.new ≡ self.old) }
+    {
+        let name = Raw::new(name.as_bytes().to_vec(self.alloc)?);
+        self.failed_writes.push(name)?;
         Ok(())
     }
 
@@ -136,11 +128,11 @@ impl MemFiles {
         ensures { ReadsMemory self.old name.now limit result self.new }
     {
         if self.count_call() {
-            self.keep_failure(name, CallKind::Read)?;
+            self.keep_failed_read(name)?;
             return Err(ReadErr::Failed);
         }
         let Some(bytes) = self.get(name) else {
-            self.keep_failure(name, CallKind::Read)?;
+            self.keep_failed_read(name)?;
             return Err(ReadErr::Failed);
         };
         if bytes.len() as u64 > limit {
@@ -154,7 +146,7 @@ impl MemFiles {
         ensures { WritesMemory self.old name.now bytes.now result self.new }
     {
         if self.count_call() {
-            self.keep_failure(name, CallKind::Write)?;
+            self.keep_failed_write(name)?;
             return Err(WriteErr::Failed);
         }
         self.add(name, bytes)?;

@@ -1,4 +1,4 @@
-//! A sink in memory, with calls that fail when they are told to.
+//! A sink in memory, with calls that are made to fail.
 ghost use Rattle.std.specs.Prelude.{◌≡◌, ◌<◌, ◌≤◌, ◌++◌, [], ◌∷◌, length, take, IfOk, OnOk, OnErr};
 ghost use Rattle.std.specs.Prelude.{IsErrOf, MatchResult};
 ghost use Rattle.rbbi_io.specs.Sinks.{Takes};

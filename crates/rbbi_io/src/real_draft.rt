@@ -11,10 +11,10 @@ use std::os::unix::fs::{MetadataExt, lchown};
 use std::path::{Path, PathBuf};
 use std::{fs, io};
 
-/// As many links in a row are followed at most.
+/// The most links that are followed from one to the next.
 const MOST_LINKS: u64 = 40;
 
-/// What a draft is to replace: its path, which is no link, and what the system tells of the file
+/// What a draft is to replace: its path, which is no link, and the system's metadata of the file
 /// that is there, if one is.
 #[derive(Drop)]
 struct Replaced<A: Allocator> {
@@ -220,7 +220,7 @@ pub(crate) fn write_to<W: Write>(file: &mut W, bytes: &[u8]) -> Result<(), Write
 }
 
 /// Opens what has this name and empties it, or makes a file where nothing has it. What is there is
-/// opened as such: to make it anew is refused for another user's file in a folder for all.
+/// opened as such: the system refuses to create it for another user's file in a sticky folder.
 fn emptied<R: Files>(rt: &R, name: &str) -> io::Result<R::File> {
     match OpenOptions::new().write(true).truncate(true).open(rt, name) {
         Err(fault) if fault.kind() == ErrorKind::NotFound => File::create(rt, name),

@@ -143,7 +143,7 @@ fn read_file<R: std::rt::Files>(
     }
 }
 
-/// Want of memory, or a fault, and never that a file is too long.
+/// `Memory` if memory ran out, and otherwise a fault; never `TooLong`.
 fn refused_read(fault: &io::Error) -> ReadErr
     ensures { result ≢ ReadErr.TooLong }
 {

@@ -32,7 +32,7 @@ impl<W: Write> RealSink<W> {
     }
 }
 
-/// Writes a front of a piece that is not empty. A write that takes nothing is a fault.
+/// Writes a prefix of a piece that is not empty. A write that takes nothing is a fault.
 fn write_some<W: Write>(out: &mut W, piece: &[u8]) -> Result<usize, WriteErr>
     ensures some { IfOk result (λ n. 0 < n) }
     ensures within { IfOk result (λ n. n ≤ length piece.now) }

@@ -23,7 +23,7 @@ pub trait Sink {
     /// What a put of a piece answers and leaves, where the sink says more of it than is said below.
     ghost put_gives: { Self → List ℕ → Result ℕ WriteErr → Self → Type 0 } = { λ _ _ _ _. ⊤ };
 
-    /// Takes a front of the piece, of at least one byte where there is one, and answers its length.
+    /// Takes a prefix of the piece, of at least one byte if there is one, and answers its length.
     ///
     /// Refuses `Failed` only where the count of faults rose. After a refusal nothing was taken.
     fn put(&mut self, piece: &[u8]) -> Result<usize, WriteErr>
@@ -44,7 +44,7 @@ pub trait Sink {
 
 /// Puts all bytes, in one or more pieces.
 ///
-/// Refuses `Failed` only where the sink's count of faults rose. After a refusal a front of the
+/// Refuses `Failed` only where the sink's count of faults rose. After a refusal a prefix of the
 /// bytes was taken; the put that was refused is the last one.
 pub fn put_all<K: Sink>(out: &mut K, bytes: &[u8]) -> Result<(), WriteErr>
     ensures ok { OnOk result (Takes (K.taken out.old) (K.taken out.new) bytes.now) }
@@ -61,12 +61,12 @@ pub fn put_all<K: Sink>(out: &mut K, bytes: &[u8]) -> Result<(), WriteErr>
     Ok(())
 }
 
-/// As many bytes as this go out at once; fewer wait for more.
+/// As many bytes as this are written at once; fewer wait for more.
 const FULL: usize = 65_536;
 
 /// Puts the bytes that were made and wait, once there are 65,536 or more, and then none wait.
 ///
-/// Refuses `Failed` only where the sink's count of faults rose. After a refusal a front of the
+/// Refuses `Failed` only where the sink's count of faults rose. After a refusal a prefix of the
 /// bytes was taken, and all are still there; the put that was refused is the last one.
 pub fn put_when_full<K: Sink>(out: &mut K, made: &mut Vec<u8>) -> Result<(), WriteErr>
     ensures few { length made.old.items < 65536

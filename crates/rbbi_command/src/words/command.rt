@@ -8,24 +8,24 @@ use crate::Role;
 /// A command of the program.
 #[derive(Clone, Copy, Debug)]
 pub enum Command {
-    /// Tell whether a rule file has a fault, and how many rules it has.
+    /// Report whether a rule file has a fault, and how many rules it has.
     Check,
     /// Write the table file of a rule file.
     Compile,
-    /// Write the table of a table file anew, in the newest version.
+    /// Rewrite a table file in the newest version.
     Upgrade,
-    /// Tell whether two rule files have the same marks after every text, or a text after which they
-    /// differ.
+    /// Report whether two rule files have the same marks after every text, or a text after which
+    /// they differ.
     Same,
-    /// Tell the boundaries of a text.
+    /// Print the boundaries of a text.
     Breaks,
     /// Reply to the commands of a script over a text.
     Run,
     /// Compare the boundaries of tests with their marks.
     Conform,
-    /// Tell how many segments of a text have each status, and again after each edit of a script.
+    /// Count the segments of a text by status, and again after each edit of a script.
     Tally,
-    /// Tell what comes of a session over a text that is drawn.
+    /// Summarize a session over a random text.
     Demo,
 }
 
@@ -38,7 +38,7 @@ pub(crate) enum Takes {
     RuleOptions,
     /// Those on rule files; or the one that says that the first operand is a table file.
     RuleOptionsOrTable,
-    /// These, and one on how boundaries are told beside them.
+    /// These, and besides one on how boundaries are reported.
     RuleOptionsOrTableAndTelling,
 }
 

@@ -1,4 +1,4 @@
-//! What the words of the command line ask for.
+//! What the command-line arguments ask for.
 ghost use Rattle.std.specs.Prelude.{MatchOption, map, IfOk};
 ghost use Rattle.std.specs.String.{string_bytes};
 ghost use Rattle.rbbi_command.specs.Words as spec;
@@ -19,7 +19,7 @@ pub use setting::{FilterKind, Property};
 use setting::{behind, settings_of};
 use std::alloc::{AllocError, Global};
 
-/// A command, what its options come to, and its operands in order.
+/// A command, what its options mean, and its operands in order.
 #[derive(Drop)]
 pub struct Request<'a> {
     pub command: Command,
@@ -27,7 +27,7 @@ pub struct Request<'a> {
     pub operands: &'a [String],
 }
 
-/// What the words ask for, where they are of a stated form.
+/// What the arguments ask for, or `None` if they are invalid.
 pub fn request_of(alloc: Global, words: &Vec<String>) -> Result<Option<Request<'_>>, AllocError>
     ensures { IfOk result (λ found. MatchOption found
         (spec.AreNoForm (map string_bytes words.now.items))

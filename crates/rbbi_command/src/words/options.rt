@@ -1,4 +1,4 @@
-//! What the options of a command come to.
+//! What the options of a command mean.
 ghost use Rattle.std.specs.Prelude.{◌≡◌, IfOk, count_by, filter_map};
 ghost use Rattle.std.specs.List.{list_any};
 ghost use Rattle.rbbi_command.specs.Settings as spec;
@@ -10,15 +10,15 @@ use crate::Source;
 use rbbi_text::Unit;
 use std::alloc::{AllocError, Global};
 
-/// The most property files that may be handed in.
+/// The most property files that are allowed.
 const MOST_PROPERTIES: usize = 16;
 
-/// What the options of a command come to.
+/// What the options of a command mean.
 #[derive(Debug, Drop)]
 pub struct Options {
     /// The files that they name to be read, in order.
     pub files: Vec<Source>,
-    /// The property files that are handed in, in order.
+    /// The property files, in order.
     pub properties: Vec<Property>,
     /// Whether `$dictionary` is a variable like others.
     pub ignored: bool,
@@ -33,13 +33,17 @@ pub struct Options {
 fn are_by_table(settings: &[Setting]) -> bool
     ensures { result ≡ spec.are_by_table settings.now }
 {
-    settings.iter().any(|setting| setting.is_by_table())
+    settings
+        .iter()
+        .any(|setting| matches!(setting, Setting::ByTable))
 }
 
 fn ignores_dictionary(settings: &[Setting]) -> bool
     ensures { result ≡ list_any spec.is_ignoring settings.now }
 {
-    settings.iter().any(|setting| setting.is_ignoring())
+    settings
+        .iter()
+        .any(|setting| matches!(setting, Setting::IgnoreDictionary))
 }
 
 fn count_properties(settings: &[Setting]) -> usize
@@ -47,7 +51,7 @@ fn count_properties(settings: &[Setting]) -> usize
 {
     settings
         .iter()
-        .filter(|setting| setting.is_property())
+        .filter(|setting| matches!(setting, Setting::HandIn(_)))
         .count()
 }
 
@@ -56,7 +60,7 @@ fn count_ignoring(settings: &[Setting]) -> usize
 {
     settings
         .iter()
-        .filter(|setting| setting.is_ignoring())
+        .filter(|setting| matches!(setting, Setting::IgnoreDictionary))
         .count()
 }
 
@@ -65,7 +69,10 @@ fn count_tellings(settings: &[Setting]) -> usize
 {
     settings
         .iter()
-        .filter(|setting| setting.is_telling())
+        .filter(|setting| matches!(
+            setting,
+            Setting::CountIn(_) | Setting::Suppress(_) | Setting::Tailor(_)
+        ))
         .count()
 }
 
@@ -86,16 +93,23 @@ fn files_of(alloc: Global, settings: &[Setting]) -> Result<Vec<Source>, AllocErr
 fn unit_of(settings: &[Setting]) -> Unit
     ensures { result ≡ spec.unit_of settings.now }
 {
-    settings.iter().fold(Unit::Chars, |unit, setting| setting.unit().unwrap_or(unit))
+    settings
+        .iter()
+        .fold(Unit::Chars, |unit, setting| match setting {
+            Setting::CountIn(named) => *named,
+            _ => unit,
+        })
 }
 
 /// What the filter file has that the options name, if they name one.
 fn filter_of(settings: &[Setting]) -> Option<FilterKind>
     ensures { result ≡ spec.filter_of settings.now }
 {
-    settings
-        .iter()
-        .fold(None, |filter, setting| setting.filter().or(filter))
+    settings.iter().fold(None, |filter, setting| match setting {
+        Setting::Suppress(_) => Some(FilterKind::Abbreviations),
+        Setting::Tailor(_) => Some(FilterKind::Pairs),
+        _ => filter,
+    })
 }
 
 /// Whether there are at most 16 property files, and `$dictionary` is ignored once at most.
@@ -105,8 +119,8 @@ fn are_few(settings: &[Setting]) -> bool
     count_properties(settings) <= MOST_PROPERTIES && count_ignoring(settings) <= 1
 }
 
-/// Whether the options say by what boundaries come: a table file, and then of the others those
-/// alone may be there that say how boundaries are told; or rules.
+/// Whether the options say what defines the boundaries: a table file, and then only options on how
+/// boundaries are reported may be there too; or rules.
 fn are_basis(settings: &[Setting]) -> bool
     ensures { result ≡ spec.are_basis settings.now }
 {
@@ -133,7 +147,7 @@ pub(super) fn are_taken(takes: Takes, settings: &[Setting]) -> bool
     }
 }
 
-/// What these options come to.
+/// What these options mean.
 pub(super) fn options_of(alloc: Global, settings: Vec<Setting>) -> Result<Options, AllocError>
     ensures { IfOk result (λ options. options_in options ≡ spec.options_of settings.items) }
 {
@@ -144,7 +158,10 @@ pub(super) fn options_of(alloc: Global, settings: Vec<Setting>) -> Result<Option
     let files = files_of(alloc, &settings)?;
     let properties = settings
         .into_iter()
-        .filter_map(|setting| setting.into_property())
+        .filter_map(|setting| match setting {
+            Setting::HandIn(property) => Some(property),
+            _ => None,
+        })
         .collect(alloc)?;
     Ok(Options {
         files,

@@ -13,7 +13,7 @@ use crate::{Name, Role, Source};
 use rbbi_text::Unit;
 use std::alloc::{AllocError, Global};
 
-/// A property file that is handed in.
+/// A property file that an option names.
 #[derive(Debug, Drop)]
 pub struct Property {
     /// The name of the property, under which its rows are found.
@@ -25,16 +25,16 @@ pub struct Property {
 /// What a filter file has.
 #[derive(Clone, Copy, Debug)]
 pub enum FilterKind {
-    /// Abbreviations, behind which no boundary is told.
+    /// Abbreviations, after which boundaries are suppressed.
     Abbreviations,
-    /// Pairs, by which characters are turned before boundaries are looked for.
+    /// Pairs, by which characters are mapped before boundaries are looked for.
     Pairs,
 }
 
 /// An option and what it takes.
 #[derive(Debug, Drop)]
 pub(super) enum Setting {
-    /// Hand in a property file.
+    /// Use a property file.
     HandIn(Property),
     /// Let `$dictionary` be a variable like others.
     IgnoreDictionary,
@@ -42,9 +42,9 @@ pub(super) enum Setting {
     ByTable,
     /// Count places, numbers and lengths in a unit.
     CountIn(Unit),
-    /// Tell no boundary behind an abbreviation of the file with this name.
+    /// Suppress boundaries after the abbreviations of the file with this name.
     Suppress(Name),
-    /// Look for boundaries in the text as the pairs of the file with this name turn it.
+    /// Look for boundaries in the text as the pairs of the file with this name map it.
     Tailor(Name),
 }
 
@@ -56,23 +56,6 @@ impl Setting {
         match self {
             Setting::IgnoreDictionary | Setting::ByTable => 1,
             _ => 2,
-        }
-    }
-
-    /// Whether it hands in a property file.
-    pub(super) fn is_property(&self) -> bool
-        ensures { result ≡ spec.is_property self.now }
-    {
-        matches!(self, Setting::HandIn(_))
-    }
-
-    /// The property file that it hands in.
-    pub(super) fn into_property(self) -> Option<Property>
-        ensures { result ≡ spec.property_of self }
-    {
-        match self {
-            Setting::HandIn(property) => Some(property),
-            _ => None,
         }
     }
 
@@ -88,57 +71,6 @@ impl Setting {
         let name = Name::new(alloc, name.as_str())?;
         Ok(Some(Source { role, name }))
     }
-
-    /// Whether it lets `$dictionary` be a variable like others.
-    pub(super) fn is_ignoring(&self) -> bool
-        ensures { result ≡ spec.is_ignoring self.now }
-    {
-        matches!(self, Setting::IgnoreDictionary)
-    }
-
-    /// Whether it says that the first operand is a table file.
-    pub(super) fn is_by_table(&self) -> bool
-        ensures { result ≡ spec.is_by_table self.now }
-    {
-        matches!(self, Setting::ByTable)
-    }
-
-    /// Whether it says how boundaries are told: in a unit, or through a filter.
-    pub(super) fn is_telling(&self) -> bool
-        ensures { result ≡ spec.is_telling self.now }
-    {
-        matches!(
-            self,
-            Setting::CountIn(_) | Setting::Suppress(_) | Setting::Tailor(_)
-        )
-    }
-
-    /// The unit that it names.
-    pub(super) fn unit(&self) -> Option<Unit>
-        ensures { result ≡ spec.unit_in self.now }
-    {
-        match self {
-            Setting::CountIn(unit) => Some(*unit),
-            _ => None,
-        }
-    }
-
-    /// What the filter file has that it names.
-    pub(super) fn filter(&self) -> Option<FilterKind>
-        ensures { result ≡ spec.filter_in self.now }
-    {
-        match self {
-            Setting::Suppress(_) => Some(FilterKind::Abbreviations),
-            Setting::Tailor(_) => Some(FilterKind::Pairs),
-            _ => None,
-        }
-    }
-}
-
-fn is_property_name_byte(byte: u8) -> bool
-    ensures { result ≡ spec.is_property_name_byte byte }
-{
-    byte.is_ascii_alphanumeric() || matches!(byte, b' ' | b'_' | b'-')
 }
 
 fn has_letter_or_digit(name: &[u8]) -> bool
@@ -150,7 +82,7 @@ fn has_letter_or_digit(name: &[u8]) -> bool
 fn are_name_bytes(name: &[u8]) -> bool
     ensures { result ≡ list_all spec.is_property_name_byte name.now }
 {
-    name.iter().all(|byte| is_property_name_byte(*byte))
+    name.iter().all(|byte| byte.is_ascii_alphanumeric() || matches!(*byte, b' ' | b'_' | b'-'))
 }
 
 /// Whether it is the name of a property: letters, digits, spaces, `_` and `-` of ASCII, with a
@@ -161,7 +93,7 @@ fn is_property_name(name: &str) -> bool
     has_letter_or_digit(name.as_bytes()) && are_name_bytes(name.as_bytes())
 }
 
-/// The property file that `NAME=FILE` hands in, where the word is of this form.
+/// The property file of an argument `NAME=FILE`, or `None` if it isn't of this form.
 fn property_of(alloc: Global, word: &str) -> Result<Option<Setting>, AllocError>
     ensures { IfOk result (λ found. MatchOption found
         ((property : Property) → spec.IsSetting (Setting.HandIn property)
@@ -208,30 +140,18 @@ fn setting_of(alloc: Global, words: &[String]) -> Result<Option<Setting>, AllocE
     let Some((first, more)) = words.split_first() else {
         return Ok(None);
     };
-    match first.as_str() {
-        "--ignore-dictionary" => Ok(Some(Setting::IgnoreDictionary)),
-        "--table" => Ok(Some(Setting::ByTable)),
-        "--prop" => match more.first() {
-            Some(word) => property_of(alloc, word.as_str()),
-            None => Ok(None),
-        },
-        "--units" => match more.first() {
-            Some(word) => Ok(unit_of(word.as_str())),
-            None => Ok(None),
-        },
-        "--suppress" => match more.first() {
-            Some(word) => Ok(Some(Setting::Suppress(Name::new(alloc, word.as_str())?))),
-            None => Ok(None),
-        },
-        "--tailor" => match more.first() {
-            Some(word) => Ok(Some(Setting::Tailor(Name::new(alloc, word.as_str())?))),
-            None => Ok(None),
-        },
+    match (first.as_str(), more.first()) {
+        ("--ignore-dictionary", _) => Ok(Some(Setting::IgnoreDictionary)),
+        ("--table", _) => Ok(Some(Setting::ByTable)),
+        ("--prop", Some(word)) => property_of(alloc, word.as_str()),
+        ("--units", Some(word)) => Ok(unit_of(word.as_str())),
+        ("--suppress", Some(word)) => Ok(Some(Setting::Suppress(Name::new(alloc, word.as_str())?))),
+        ("--tailor", Some(word)) => Ok(Some(Setting::Tailor(Name::new(alloc, word.as_str())?))),
         _ => Ok(None),
     }
 }
 
-/// The words behind so many.
+/// The words after the first `count`.
 pub(super) fn behind(words: &[String], count: usize) -> &[String]
     requires { count ≤ length words.now }
     ensures { map string_bytes result.now ≡ drop count (map string_bytes words.now) }
@@ -250,7 +170,7 @@ fn begins_with_option(words: &[String]) -> bool
     }
 }
 
-/// Options in a row.
+/// Consecutive options.
 #[derive(Debug, Drop)]
 pub(super) struct Settings {
     /// The options, in order.
@@ -259,8 +179,8 @@ pub(super) struct Settings {
     pub(super) words: usize,
 }
 
-/// The options that the words begin with, up to a word that doesn't begin as an option does; and
-/// nothing where a word before that begins as one and is none.
+/// The options that the words begin with, up to the first word that doesn't begin with `--`. `None`
+/// if a word before that begins with `--` and is no option.
 pub(super) fn settings_of(alloc: Global, words: &[String]) -> Result<Option<Settings>, AllocError>
     ensures { IfOk result (λ found. MatchOption found
         ((settings : List Setting) (rest : List (List ℕ))

@@ -1,5 +1,5 @@
 -- What the calls that read parts of a line answer. Each pair of a code point and a mark takes six bytes or more.
-use Rattle.std.specs.Prelude.{◌≡◌, ℕ, ◌+◌, ◌*◌, ◌≤◌, Bool, List, ◌∷◌, length, Option, Some, None}
+use Rattle.std.specs.Prelude.{◌≡◌, ℕ, ◌+◌, ◌*◌, ◌≤◌, Bool, List, ◌∷◌, length}
 use Rattle.rbbi_conform.specs.Grammar.{words_of, IsMark, IsHexadecimalOf, ArePairs, WritesTest}
 
 -- the first word of the text, and what follows it
@@ -7,16 +7,6 @@ pub record IsFirstWord (text word rest : List ℕ) : Type 0 where
   pub words : words_of text ≡ word ∷ words_of rest
   pub some : 1 ≤ length word
   pub parts : length word + length rest ≤ length text
-
--- the mark that the word is, if it is one
-abbrev pub IsMarkOf : List ℕ → Option Bool → Type 0
-IsMarkOf word None = (mark : Bool) → ¬ IsMark word mark
-IsMarkOf word (Some mark) = IsMark word mark
-
--- the character that the word is, if it is one
-abbrev pub IsCharacterOf : List ℕ → Option ℕ → Type 0
-IsCharacterOf word None = (c : ℕ) → ¬ IsHexadecimalOf word c
-IsCharacterOf word (Some c) = IsHexadecimalOf word c × (4 ≤ length word)
 
 -- no code point and mark begin the words
 abbrev pub IsNoPair : List ℕ → List (List ℕ) → Type 0
@@ -36,16 +26,8 @@ pub record AreMarkedBy (words text : List ℕ) (marks : List Bool) : Type 0 wher
   pub same : length text ≡ length marks
   pub few : 6 * length marks ≤ length words
 
--- the words of the text are no pairs
-abbrev pub AreUnmarked : List ℕ → Type 0
-AreUnmarked words = (text : List ℕ) (marks : List Bool) → ¬ ArePairs (words_of words) text marks
-
 -- the line writes this test
 pub record IsMarkedOf (line text : List ℕ) (marks : List Bool) : Type 0 where
   pub writes : WritesTest line text marks
   pub same : length text ≡ length marks
   pub few : 6 * length marks ≤ length line
-
--- the line writes no test
-abbrev pub IsUnmarked : List ℕ → Type 0
-IsUnmarked line = (text : List ℕ) (marks : List Bool) → ¬ WritesTest line text marks

@@ -2,9 +2,10 @@ use Rattle.std.proofs.Common.{◌≡◌, ◌++◌, ◌+◌, ◌∷◌, [], List,
 use Rattle.std.specs.List.{flat_map, AllByRecursion}
 use Rattle.std.specs.String.{string_bytes}
 use Rattle.std.proofs.lemmas.List.{length-map}
+use Rattle.rbbi_model.proofs.Lists.{all_append}
 use Rattle.rbbi_command.specs.declared.words.setting.Setting.{Setting}
 use Rattle.rbbi_command.specs.Settings.{IsSetting, spelled, BeginsWithoutOption}
-use Rattle.rbbi_command.proofs.SettingLemmas.{no_settings, settings_push, words_push, words_left, some_words}
+use Rattle.rbbi_command.proofs.SettingLemmas.{no_settings, words_push, words_left, some_words}
 use Rattle.rbbi_command.proofs.words.setting.settings_of.Goals as goal
 
 pub returns-in_default : goal.returns-in_default
@@ -30,7 +31,7 @@ options-preserved c =
       are = words_push words c.options.list.items s c.options.at c.options.invariant.are left.0
           ∙ ap (λ n. flat_map spelled (c.options.list.items ++ s ∷ []) ++ drop n words) (sym at)
           ∙ ap (λ ss. flat_map spelled ss ++ drop (c.options.at + c.words-at.result) words) (sym pushed);
-      each = subst (AllByRecursion IsSetting) (sym pushed) (settings_push c.options.list.items s c.options.invariant.each found.0);
+      each = subst (AllByRecursion IsSetting) (sym pushed) (all_append IsSetting c.options.list.items (s ∷ []) c.options.invariant.each (found.0, tt));
     }
 
 pub options-smaller : goal.options-smaller
