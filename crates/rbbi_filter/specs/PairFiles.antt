@@ -25,7 +25,7 @@ character_of field = option_and_then no_surrogate (hexadecimal 4 6 0x10FFFF (tri
 abbrev pub pair_with : Option ℕ → Option ℕ → Option Pair
 pair_with first second = option_and_then (λ from. option_and_then (λ to. Some (record { from = from; to = to })) second) first
 
--- the pair of a character before the first `;` and one behind it
+-- the pair of a character before the first `;` and one after it
 abbrev pub pair_in : List ℕ → Option Pair
 pair_in fields = pair_with (character_of (before_first (λ byte. byte == 59) fields)) (character_of (after_first (λ byte. byte == 59) fields))
 

@@ -13,7 +13,7 @@ use std::sync::ledger::Ledger;
 /// What stands between a text and its boundaries as they are reported.
 #[derive(Debug, Drop)]
 pub enum Filter {
-    /// Abbreviations, behind which no boundary is reported.
+    /// Abbreviations, after which no boundary is reported.
     Suppressing(Abbreviations),
     /// Pairs, by which the characters are turned before boundaries are looked for.
     Turning(Tailoring),

@@ -12,17 +12,17 @@ use rbbi_text::{EditErr, EditText, Steps};
 use std::marker::Model;
 use std::sync::ledger::Ledger;
 
-/// A session that doesn't tell a boundary within the text where a predicate is true of the
+/// A session that doesn't report a boundary within the text where a predicate is true of the
 /// characters before it, at most 64: that is where they end with an abbreviation of a list. Its
 /// answers are by the boundaries that are left.
 pub type Filtered<'a, T, P> = Through<Suppressed<'a, T, P>>;
 
-/// A session, and the abbreviations behind which no boundary is reported.
+/// A session, and the abbreviations after which no boundary is reported.
 #[derive(Drop)]
 pub struct Suppressed<'a, T: EditText, P: Predicate> {
     /// Its cursor stands at a boundary that is reported.
     session: Session<'a, T>,
-    /// The abbreviations of which the predicate tells.
+    /// The abbreviations that the predicate looks for.
     list: &'a Abbreviations,
     keep: P,
 }
@@ -49,8 +49,8 @@ impl<'a, T: EditText, P: Predicate> Model for Suppressed<'a, T, P> {
 }
 
 impl<'a, T: EditText, P: Predicate> Through<Suppressed<'a, T, P>> {
-    /// The session through these abbreviations, with the cursor at 0. `keep` tells of at most 64
-    /// characters before a boundary whether they end with one of them. It takes no memory.
+    /// The session through these abbreviations, with the cursor at 0. `keep` answers for at most
+    /// 64 characters before a boundary whether they end with one of them. It takes no memory.
     pub fn open(session: Session<'a, T>, list: &'a Abbreviations, keep: P) -> Filtered<'a, T, P>
         requires { AnswersEnds (P.can_ask keep) (P.answers keep) list.now }
         ensures opened { IsOpened (Suppressing list.now) session.entry.table

@@ -1,4 +1,4 @@
-//! Sessions through a filter: abbreviations behind which no boundary is reported, or pairs by which
+//! Sessions through a filter: abbreviations after which no boundary is reported, or pairs by which
 //! characters are turned before boundaries are looked for.
 //!
 //! [`Abbreviations`] are read from a file, a line each. A [`Filtered`] answers as a session does,
@@ -28,7 +28,7 @@ pub use filtered::Filtered;
 pub use laws::{one_abbreviations, one_tailoring, turned_splices};
 pub use mapped::Mapped;
 pub use pair::Pair;
-pub use performing::{perform_filtered, perform_tailored};
+pub use performing::{perform_through as perform_filtered, perform_through as perform_tailored};
 pub use tailored::Tailored;
 pub use tailoring::{TailorErr, Tailoring};
 pub use through::Through;

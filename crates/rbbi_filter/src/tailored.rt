@@ -16,7 +16,7 @@ use std::marker::Model;
 use std::sync::ledger::Ledger;
 
 /// A session that answers by the boundaries of its text as a map turns the characters: by that of
-/// some pairs. Each answer is the one that a scan of the turned text gives, at the costs that
+/// some pairs. Each answer is the one that a scan of the mapped text gives, at the costs that
 /// `rbbi_session::Session` has over that text.
 pub type Tailored<'a, T, G> = Through<Turned<'a, T, G>>;
 

@@ -19,7 +19,7 @@ pub record IsField (text : List ℕ) (n : ℕ) (rest : List ℕ) : Type 0 where
   pub number : WritesNumber digits n
   pub spelled : text ≡ digits ++ 32 ∷ rest
 
--- one to six hexadecimal digits of the character, in braces behind `u`
+-- one to six hexadecimal digits of the character, in braces after `u`
 pub record IsNumberEscape (spelling : List ℕ) (c : ℕ) : Type 0 where
   pub digits : List ℕ
   pub number : hexadecimal 1 6 0x10FFFF digits ≡ Some c

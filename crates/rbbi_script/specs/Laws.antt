@@ -5,7 +5,7 @@ use Rattle.rbbi_text.specs.declared.error.LinesErr.{LinesErr}
 use Rattle.rbbi_text.specs.declared.error.LinesErr.TheVariants.{Memory}
 use Rattle.rbbi_script.specs.Files.{ReadsScript}
 
--- bytes have one answer, but for want of memory: they are the script of one list of commands, or one fault is reported
+-- bytes have one answer, unless memory runs out: they are the script of one list of commands, or one fault is reported
 abbrev pub HaveOneScript : Type 0
 HaveOneScript =
     (bytes : List ℕ) (one other : Result (List Command) LinesErr) → ReadsScript bytes one → ReadsScript bytes other

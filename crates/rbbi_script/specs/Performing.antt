@@ -25,7 +25,7 @@ pub record IsBrokenOff {A Setting : Type 0} (view : View A Setting) (old : A) (c
   pub state_is : (view.state new ≡ (turn_of view old command).state) ⊎ (IsEdit command × (view.state new ≡ view.state old))
 
 module _ {A Setting : Type 0} (view : View A Setting) where
-  -- what performing the command answers and leaves: the refusal is want of memory
+  -- what performing the command answers and leaves: the refusal is that memory ran out
   abbrev pub Performs : {T E : Type 0} → A → Command → List ℕ → Result T E → A → List ℕ → Type 0
   Performs old command before (Ok done) new after = IsPerformed view old command before new after
   Performs old command before (Err error) new after = IsBrokenOff view old command before new after

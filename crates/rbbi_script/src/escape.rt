@@ -17,7 +17,7 @@ struct Escape<'a> {
     rest: &'a str,
 }
 
-/// The escape at the start of a text, behind its backslash.
+/// The escape at the start of a text, after its backslash.
 fn escape_at(text: &str) -> Option<Escape<'_>>
     ensures { MatchOption result (IsNoEscape text.now)
         (λ escape. IsOnlyEscape text.now escape.character escape.rest.now) }

@@ -9,7 +9,7 @@ use crate::question::other_of;
 use rbbi_text::{Word, decimal};
 use std::alloc::{AllocError, Global};
 
-/// The command that a line writes, and none where it is of no stated form.
+/// The command that a line writes, or none where it writes none.
 pub(crate) fn command_of(alloc: Global, line: &str) -> Result<Option<Command>, AllocError>
     ensures { IfOk result (IsCommandOf line.now) }
 {

@@ -16,7 +16,7 @@ fn say_next(status: u32, reply: &mut Vec<u8>) -> Result<(), AllocError>
     append_number(status, reply)
 }
 
-/// Appends statuses, each behind a comma, or a prefix of that where memory runs out.
+/// Appends statuses, each after a comma, or a prefix of that where memory runs out.
 fn say_others(statuses: &[u32], reply: &mut Vec<u8>) -> Result<(), AllocError>
     ensures { Appends reply.old.items (flat_map next_status statuses.now) result reply.new.items }
 {

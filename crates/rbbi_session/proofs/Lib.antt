@@ -4,8 +4,8 @@ pub mod Reaching
 pub mod Answering
 pub mod Stepping
 mod Asked
+pub mod UnitCursors
 pub mod UnitAnswering
 pub mod UnitEditing
-pub mod UnitCursors
 pub mod Recalled
 pub mod Walking

@@ -14,11 +14,11 @@ use Rattle.rbbi_model.specs.Scripts.{Ask}
 use Rattle.rbbi_model.specs.Costs.{is_same_question, is_unkept}
 use Rattle.rbbi_model.proofs.Measured.{turned_reply}
 use Rattle.rbbi_session.specs.Sessions.{boundaries_of}
-use Rattle.rbbi_session.specs.UnitSessions.{UnitSession, UnitAsks, offset_in, unit_answer_of}
+use Rattle.rbbi_session.specs.UnitSessions.{UnitSession, UnitAsks, offset_in}
 use Rattle.rbbi_session.specs.Questions.{Sent, Nothing, Past, Back, sent_by, IsShown, LeavesRuns}
 use Rattle.rbbi_session.specs.Walks.{Recall}
 use Rattle.rbbi_session.specs.UnitWalks.{unit_view}
-use Rattle.rbbi_session.proofs.UnitCursors.{preceding_told}
+use Rattle.rbbi_session.proofs.UnitCursors.{preceding_told, unit_answer}
 
 same_question : (earlier question : Question) → is_same_question earlier question ≡ true → earlier ≡ question
 same_question (Following a) (Following b) same = ap Following (eqb-true a b same)
@@ -85,7 +85,7 @@ module _ (old new : UnitSession) (before after : ℕ) (text : new.asked.state.te
     (table : new.asked.table ≡ old.asked.table) where
   -- before an offset whose last boundary is 0 no run is kept
   unkept : (v : ℕ) → last_before (boundaries_of old.asked) (place_from old.unit old.asked.state.text v) ≡ Some 0 →
-      is_unkept (Ask (Preceding v)) (unit_answer_of new (Preceding v)).reply ≡ true
+      is_unkept (Ask (Preceding v)) (unit_answer new (Preceding v)).reply ≡ true
   unkept v last =
       let here : last_before (boundaries_of new.asked) (place_from new.unit new.asked.state.text v) ≡ Some 0 =
       ap (λ t. last_before (table_boundaries t new.asked.state.text) (place_from new.unit new.asked.state.text v)) table
@@ -97,7 +97,7 @@ module _ (old new : UnitSession) (before after : ℕ) (text : new.asked.state.te
 
   -- a question that repeats the one that was asked is shown by some kept run, unless its answer is one that no run is kept for
   shown_again : (earlier question : Question) → UnitAsks old earlier new before after → is_same_question earlier question ≡ true →
-      is_unkept (Ask question) (unit_answer_of new question).reply ≡ false →
+      is_unkept (Ask question) (unit_answer new question).reply ≡ false →
       IsShown new.asked.state.text new.asked.runs (sent_by new.asked.state.text new.asked.state.cursor (in_characters new.unit new.asked.state.text question))
   shown_again earlier question asked same kept =
       ⊎_elim
@@ -110,8 +110,8 @@ module _ (old new : UnitSession) (before after : ℕ) (text : new.asked.state.te
       (λ start.
       let back = back_is_preceding old.unit old.asked.state.text old.asked.state.cursor start.0 earlier question same start.1 in
       let is : question ≡ Preceding back.0 = sym (same_question earlier question same) ∙ back.1 in
-      let kept_there : is_unkept (Ask (Preceding back.0)) (unit_answer_of new (Preceding back.0)).reply ≡ false =
-      subst (λ q. is_unkept (Ask q) (unit_answer_of new q).reply ≡ false) is kept in
+      let kept_there : is_unkept (Ask (Preceding back.0)) (unit_answer new (Preceding back.0)).reply ≡ false =
+      subst (λ q. is_unkept (Ask q) (unit_answer new q).reply ≡ false) is kept in
       absurd (false≢true (sym kept_there ∙ unkept back.0 (ap (last_before (boundaries_of old.asked)) back.2 ∙ start.2))))
       (shown_now old.asked.table old.asked.state.text (sent_by old.asked.state.text old.asked.state.cursor
       (in_characters old.unit old.asked.state.text earlier)) old.asked.runs new.asked.runs asked.runs)

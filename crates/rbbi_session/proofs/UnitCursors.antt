@@ -1,19 +1,111 @@
--- Where the offset of a place lies, and which places lie before an offset.
-use Rattle.std.proofs.Common.{◌≡◌, ℕ, ◌+◌, ◌≤◌, true, ltb, leb, List, length, refl, sym, ◌∙◌, ⊎_elim, arith}
+-- The places that a number names, where the offset of a place lies, and which places lie before an offset.
+use Rattle.std.proofs.Common.{◌≡◌, ◌≢◌, ℕ, ◌+◌, ◌<◌, ◌≤◌, true, false, ltb, leb, List, Option, Some, None, length, refl, sym, ◌∙◌, ⊎_elim, inl, inr}
+use Rattle.std.proofs.Common.{arith, subst}
+use Rattle.std.specs.Prelude.{MatchBool, unwrap_or}
 use Rattle.std.specs.List.{AllByRecursion}
-use Rattle.std.proofs.lemmas.Bool.{cases_lt, lt-ltb, le-ltb, leb-true, leb-false}
+use Rattle.std.proofs.lemmas.Bool.{cases_lt, lt-ltb, le-ltb, lt-leb, le-leb, leb-true, leb-false, false≢true}
 use Rattle.rbbi_model.specs.declared.unit.Unit.{Unit as TextUnit}
+use Rattle.rbbi_model.specs.Places.{greatest_below}
 use Rattle.rbbi_model.specs.Units.{offset_of}
 use Rattle.rbbi_model.specs.UnitAnswers.{place_before, place_from}
-use Rattle.rbbi_model.specs.Answers.{Preceding}
-use Rattle.rbbi_model.proofs.Found.{least_lies}
-use Rattle.rbbi_model.proofs.SearchFacts.{least_is}
+use Rattle.rbbi_model.specs.Answers.{Question, Preceding, Answer, answer}
+use Rattle.rbbi_model.proofs.Found.{least_lies, greatest_lies}
+use Rattle.rbbi_model.proofs.SearchFacts.{least_is, none_passes, greatest_is_most}
+use Rattle.rbbi_model.proofs.SearchesAlike.{least_unique}
 use Rattle.rbbi_model.proofs.Measured.{offset_rises, rises_up_to, answers_preceding, turned_answer}
+use Rattle.rbbi_text.specs.declared.units.Index.{Index}
 use Rattle.rbbi_text.specs.Indexes.{IsIndex}
 use Rattle.rbbi_session.specs.Sessions.{boundaries_of, answer_of}
-use Rattle.rbbi_session.specs.UnitSessions.{UnitSession, offset_in, unit_answer_of}
+use Rattle.rbbi_session.specs.UnitSessions.{UnitSession, offset_in, state_of}
+use Rattle.rbbi_session.specs.Walks.{reported}
+use Rattle.rbbi_session.specs.UnitWalks.{unit_view}
+use Rattle.rbbi_session.specs.inner.UnitPlaces.{IsPlaceUpTo, IsPlaceFrom}
 use Rattle.rbbi_session.proofs.Answering.{none_past}
-use Rattle.rbbi_session.proofs.UnitAnswering.{before_is, place_whole}
+
+-- what is found of a number
+module _ (unit : TextUnit) (x : List ℕ) (o : ℕ) (index : Index) (is : IsIndex unit x o index) where
+  low_passes : leb (offset_of unit x index.at) o ≡ true
+  low_passes = le-leb (offset_of unit x index.at) o is.before
+
+  greatest : (place : Option ℕ) → greatest_below (λ i. leb (offset_of unit x i) o) (length x + 1) ≡ place → unwrap_or place 0 ≡ index.at
+  greatest None found =
+      absurd (none_passes (λ i. leb (offset_of unit x i) o) (length x + 1) index.at found (omega (arith, is.within)) low_passes)
+  greatest (Some g) found =
+      let lies = greatest_lies (λ i. leb (offset_of unit x i) o) (length x + 1) g found in
+      let most = greatest_is_most (λ i. leb (offset_of unit x i) o) (length x + 1) g index.at found (omega (arith, is.within)) low_passes in
+      let up_to = is.greatest g (omega (arith, lies.0)) (leb-true (offset_of unit x g) o lies.1) in
+      omega (arith, most, up_to)
+
+  pub before_is : place_before unit x o ≡ index.at
+  before_is = greatest (greatest_below (λ i. leb (offset_of unit x i) o) (length x + 1)) refl
+
+-- the first place that doesn't lie before the number, where each earlier one does
+pub from_is : (unit : TextUnit) (x : List ℕ) (o p : ℕ) → p ≤ length x + 1 → ((q : ℕ) → q < p → q ≤ length x → offset_of unit x q < o) →
+    ((p ≤ length x) → o ≤ offset_of unit x p) → place_from unit x o ≡ p
+from_is unit x o p within before here =
+    least_unique (λ i. leb o (offset_of unit x i)) 0 (length x + 1) p (omega arith) (omega (arith, within))
+    (λ q low less. lt-leb o (offset_of unit x q) (before q less (omega (arith, less, within))))
+    (⊎_elim (λ short. inl (le-leb o (offset_of unit x p) (here (omega (arith, short))))) (λ all. inr (omega (arith, all, within)))
+    (cases_lt p (length x + 1)))
+
+-- the places that a number names
+module _ (unit : TextUnit) (x : List ℕ) (o : ℕ) where
+  rising : (i j : ℕ) → i ≤ j → j ≤ length x → offset_of unit x i ≤ offset_of unit x j
+  rising = rises_up_to (offset_of unit x) (length x) (offset_rises unit x)
+
+  pub place_past : offset_of unit x (length x) < o → IsPlaceFrom unit x o (record { at = length x + 1; whole = false })
+  place_past past = record {
+    at_is = sym (from_is unit x o (length x + 1) (omega arith) (λ q less short. let low = rising q (length x) short (omega arith) in omega (arith, low, past))
+        (λ short. absurd (omega (arith, short))));
+    before = λ p short less. let low = rising p (length x) short (omega arith) in omega (arith, low, past);
+    from = λ p short more. absurd (omega (arith, short, more));
+    whole = λ p short is. let low = rising p (length x) short (omega arith) in omega (arith, low, past, is);
+  }
+
+  pub up_to_past : offset_of unit x (length x) < o → IsPlaceUpTo unit x o (length x + 1)
+  up_to_past past = record {
+    up_to = λ p short more. let low = rising p (length x) short (omega arith) in omega (arith, low, past);
+    past = λ p short less. absurd (omega (arith, short, less));
+  }
+
+  pub up_to_index : (index : Index) → IsIndex unit x o index → IsPlaceUpTo unit x o index.at
+  up_to_index index is = record {
+    up_to = λ p short more. let low = rising p index.at more is.within in omega (arith, low, is.before);
+    past = λ p short less.
+        ⊎_elim (λ far. far) (λ near. let low = is.greatest p short near in absurd (omega (arith, low, less))) (cases_lt o (offset_of unit x p));
+  }
+
+  pub place_whole : (index : Index) → IsIndex unit x o index → index.whole ≡ true → IsPlaceFrom unit x o index
+  place_whole index is whole =
+      let at : offset_of unit x index.at ≡ o = is.whole.0 whole in
+      let before : (p : ℕ) → p < index.at → p ≤ length x → offset_of unit x p < o =
+      λ p less short. let low = offset_rises unit x p index.at less is.within in omega (arith, low, at) in
+      record {
+        at_is = sym (from_is unit x o index.at (omega (arith, is.within)) before (λ _. omega (arith, at)));
+        before = λ p short less. before p less short;
+        from = λ p short more. let low = rising index.at p more short in omega (arith, low, at);
+        whole = subst (λ b. MatchBool b ((index.at ≤ length x) × (offset_of unit x index.at ≡ o)) ((p : ℕ) → p ≤ length x → offset_of unit x p ≢ o))
+            (sym whole) (is.within, at);
+      }
+
+  pub place_inside : (index : Index) → IsIndex unit x o index → index.whole ≡ false → o ≤ offset_of unit x (length x) →
+      IsPlaceFrom unit x o (record { at = index.at + 1; whole = false })
+  place_inside index is isnt within =
+      let never_at : offset_of unit x index.at ≢ o = λ at. false≢true (sym isnt ∙ is.whole.1 at) in
+      let before : (p : ℕ) → p < index.at + 1 → p ≤ length x → offset_of unit x p < o =
+      λ p less short. let low = rising p index.at (omega (arith, less)) is.within in omega (arith, low, is.before, never_at) in
+      let from : (p : ℕ) → p ≤ length x → index.at + 1 ≤ p → o ≤ offset_of unit x p =
+      λ p short more.
+      ⊎_elim (λ near. let low = is.greatest p short (omega (arith, near)) in absurd (omega (arith, low, more))) (λ far. far) (cases_lt
+      (offset_of unit x p) o) in
+      record {
+        at_is = sym (from_is unit x o (index.at + 1) (omega (arith, is.within)) before (λ short. from (index.at + 1) short (omega arith)));
+        before = λ p short less. before p less short;
+        from = from;
+        whole = λ p short at.
+            let low = is.greatest p short (omega (arith, at)) in
+            let less = before p (omega (arith, low)) short in omega (arith, less, at);
+      }
 
 -- what lies at the offset of a place is the place
 module _ (unit : TextUnit) (x : List ℕ) (c : ℕ) (within : c ≤ length x) where
@@ -50,12 +142,16 @@ before_from unit x v p within =
     is.1)
     (cases_lt p (place_from unit x v))
 
+-- what is reported of a question's answer
+abbrev pub unit_answer : UnitSession → Question → Answer
+unit_answer session question = answer (reported unit_view session) (state_of session).cursor question
+
 module _ (session : UnitSession) where
   within : AllByRecursion (λ b. b.at ≤ length session.asked.state.text) (boundaries_of session.asked)
   within = none_past session.asked.table session.asked.state.text
 
   -- the last boundary before an offset, by characters
-  pub preceding_told : (v : ℕ) → unit_answer_of session (Preceding v)
+  pub preceding_told : (v : ℕ) → unit_answer session (Preceding v)
       ≡ turned_answer (offset_in session) (answer_of session.asked (Preceding (place_from session.unit session.asked.state.text v)))
   preceding_told v =
       answers_preceding (offset_in session) (length session.asked.state.text) refl (offset_rises session.unit session.asked.state.text)

@@ -14,8 +14,9 @@ use Rattle.rbbi_model.proofs.SearchFacts.{none_passes, greatest_is_most}
 use Rattle.rbbi_model.proofs.Measured.{offset_rises, rises_up_to}
 use Rattle.rbbi_session.specs.Sessions.{AcceptsEdit}
 use Rattle.rbbi_session.specs.Asking.{IsReadForEdit}
-use Rattle.rbbi_session.specs.UnitSessions.{UnitSession}
-use Rattle.rbbi_session.specs.UnitEdits.{UnitAcceptsEdit, UnitReadForEdit}
+use Rattle.rbbi_session.specs.UnitSessions.{UnitSession, offset_in}
+use Rattle.rbbi_session.specs.Walks.{IsEdited}
+use Rattle.rbbi_session.specs.UnitWalks.{unit_view}
 use Rattle.rbbi_text.specs.declared.units.Index.{Index}
 use Rattle.rbbi_text.specs.Indexes.{IsIndex}
 
@@ -130,13 +131,21 @@ ends_in_order unit x at removed first end is is' =
 module _ (old new : UnitSession) (at removed : ℕ) (w : List ℕ) (i j k : ℕ) (unit : new.unit ≡ old.unit) (k_is : k ≡ j - i)
     (low : at + removed ≤ offset_of old.unit old.asked.state.text (length old.asked.state.text)) (first : place_at old.unit old.asked.state.text at ≡ Some i)
     (end : place_at old.unit old.asked.state.text (at + removed) ≡ Some j) (order : i + (j - i) ≤ length old.asked.state.text) where
-  pub unit_accepted : AcceptsEdit old.asked i k w new.asked → UnitAcceptsEdit old at removed w new
-  unit_accepted accepts = record {
+  pub unit_accepted : (before after : ℕ) → AcceptsEdit old.asked i k w new.asked → IsReadForEdit old.asked i k w new.asked before after →
+      IsEdited unit_view old at removed w new before after
+  unit_accepted before after accepts reads = record {
+    same = λ t. record { table = accepts.table_is t; unit = unit t };
     accepted = edit_accepted old.unit old.asked.state.text at removed w i j low first end order new.asked.state.text (length new.asked.state.text)
         (subst (λ m. edit old.asked.state.text i m w ≡ Accepted new.asked.state.text (length new.asked.state.text)) k_is accepts.accepted);
-    start = accepts.start;
-    unit_is = unit;
-    table_is = accepts.table_is;
+    start = ap (λ c. offset_in new c) accepts.start;
+    paid = record { more = reads.more; cost = reads.cost };
+    edits = record {
+      first = i;
+      end = j;
+      first_is = first;
+      end_is = end;
+      reads = subst (λ m. IsReadForEdit old.asked i m w new.asked before after) k_is reads;
+    };
   }
 
   pub unit_too_long : edit old.asked.state.text i k w ≡ Refused TooLong → edit_in old.unit old.asked.state.text at removed w ≡ Refused TooLong
@@ -148,12 +157,3 @@ module _ (old new : UnitSession) (at removed : ℕ) (w : List ℕ) (i j k : ℕ)
   unit_not_outside refused =
       edit_not_outside old.unit old.asked.state.text at removed w i j low first end order
       (subst (λ m. edit old.asked.state.text i m w ≡ Refused Outside) k_is refused)
-
-  pub unit_reads : (before after : ℕ) → IsReadForEdit old.asked i k w new.asked before after → UnitReadForEdit old at removed w new before after
-  unit_reads before after reads = record {
-    first = i;
-    end = j;
-    first_is = first;
-    end_is = end;
-    reads = subst (λ m. IsReadForEdit old.asked i m w new.asked before after) k_is reads;
-  }

@@ -1,5 +1,5 @@
 -- A session whose places count a unit, as one of any kind.
-use Rattle.std.proofs.Common.{◌≡◌, ℕ, zero, suc, ◌-◌, ◌≤◌, cond, ltb, eqb, List, [], ◌∷◌, length, Result, Ok, Err, refl, sym, ap, ◌∙◌, subst}
+use Rattle.std.proofs.Common.{◌≡◌, ℕ, zero, suc, ◌-◌, ◌≤◌, cond, ltb, eqb, List, [], ◌∷◌, length, refl, sym, ap, ◌∙◌}
 use Rattle.std.proofs.Common.{⊎_elim, inl, inr, arith}
 use Rattle.std.specs.Prelude.{sum_by}
 use Rattle.std.specs.List.{AllByRecursion}
@@ -12,58 +12,16 @@ use Rattle.rbbi_model.specs.Cover.{IsPlaceOf, BeginAtZero, places}
 use Rattle.rbbi_model.specs.Tables.{Table}
 use Rattle.rbbi_model.specs.Searches.{table_boundaries}
 use Rattle.rbbi_model.specs.Units.{offset_of, measured}
-use Rattle.rbbi_model.specs.UnitAnswers.{place_before, place_from, in_characters}
-use Rattle.rbbi_model.specs.Answers.{Question, Next, Reply, AllOf}
+use Rattle.rbbi_model.specs.UnitAnswers.{place_before, place_from}
+use Rattle.rbbi_model.specs.Answers.{Next}
 use Rattle.rbbi_model.specs.Costs.{question_cost, forward_cost, last_cost, listing_cost, is_boundary_cost, breaks_cost}
 use Rattle.rbbi_model.proofs.Covering.{table_covers}
 use Rattle.rbbi_model.proofs.ListingCosts.{listing_parts, listing_one}
 use Rattle.rbbi_model.proofs.Measured.{offset_rises, end_turned}
-use Rattle.rbbi_text.specs.Steps.{RisesUpTo}
-use Rattle.rbbi_session.specs.declared.unit_error.UnitEditErr.{UnitEditErr}
-use Rattle.rbbi_session.specs.declared.unit_error.UnitEditErr.TheVariants as refused
-use Rattle.rbbi_session.specs.Sessions.{boundaries_of}
-use Rattle.rbbi_session.specs.UnitSessions.{UnitSession, UnitAnswers, UnitAsks, offset_in}
-use Rattle.rbbi_session.specs.UnitEdits.{UnitEditAnswers, UnitEditReads}
-use Rattle.rbbi_session.specs.Walks.{IsAsked, Edits, Cover, ListsArePaid, nexts_cost}
+use Rattle.rbbi_session.specs.Walks.{Cover, ListsArePaid, nexts_cost}
 use Rattle.rbbi_session.specs.UnitWalks.{unit_kind, unit_view}
 use Rattle.rbbi_session.proofs.Answering.{none_past, place_within}
-use Rattle.rbbi_session.proofs.UnitAnswering.{within_text}
 use Rattle.rbbi_session.proofs.UnitCursors.{place_before_here, place_from_here}
-
--- a question was answered from a boundary: it costs what it asks by characters
-pub unit_asked : (old new : UnitSession) (question : Question) (reply : Reply) (before after : ℕ) →
-    IsPlaceOf (boundaries_of old.asked) old.asked.state.cursor → UnitAnswers old question reply new → UnitAsks old question new before after →
-    IsAsked unit_view old question new before after
-unit_asked old new question reply before after here answers asked =
-    let x : List ℕ = old.asked.state.text in
-    record {
-      same =
-          ap (λ t. record { table = t; unit = new.unit }) answers.moved.table_is ∙ ap (λ u. record { table = old.asked.table; unit = u }) answers.moved.unit_is;
-      state_is =
-          ap (λ y. record { text = y; cursor = offset_in new new.asked.state.cursor }) answers.moved.text_is
-          ∙ ap (λ o. record { text = old.asked.state.text; cursor = o }) answers.moved.cursor_is;
-      paid = subst (λ p. RisesUpTo (question_cost old.asked.table x p (in_characters old.unit x question)) before after)
-          (sym (place_before_here old.unit x old.asked.state.cursor (within_text old.asked old.asked.state.cursor here)))
-          (record { more = asked.more; cost = asked.cost });
-      asks = asked;
-    }
-
--- an edit was answered
-pub unit_edits : {T : Type 0} (old new : UnitSession) (at removed : ℕ) (inserted : List ℕ) (r : Result T UnitEditErr) (before after : ℕ) →
-    UnitEditAnswers old at removed inserted r new → UnitEditReads old at removed inserted r new before after →
-    Edits unit_view old at removed inserted r new before after
-unit_edits old new at removed inserted (Ok done) before after answers reads = record {
-  same =
-      ap (λ t. record { table = t; unit = new.unit }) answers.table_is ∙ ap (λ u. record { table = old.asked.table; unit = u }) answers.unit_is;
-  accepted = answers.accepted;
-  start = ap (λ c. offset_in new c) answers.start;
-  paid = record { more = reads.reads.more; cost = reads.reads.cost };
-  edits = reads;
-}
-unit_edits old new at removed inserted (Err refused.Outside) before after answers reads = (answers.0, (answers.1, reads))
-unit_edits old new at removed inserted (Err refused.Inside) before after answers reads = (answers.0, (answers.1, reads))
-unit_edits old new at removed inserted (Err refused.TooLong) before after answers reads = (answers.0, (answers.1, reads))
-unit_edits old new at removed inserted (Err refused.Memory) before after answers reads = (answers, reads)
 
 -- a place of the boundaries by characters, and an offset of those by the unit
 pub is_measured : (unit : TextUnit) (x : List ℕ) (bs : List Boundary) (p : ℕ) → IsPlaceOf bs p → IsPlaceOf (measured unit x bs) (offset_of unit x p)
@@ -137,7 +95,3 @@ lists_are_paid setting state cursor here =
       asked_again table unit x was.0 within,
       ap (breaks_cost table x) before,
     )
-
--- the statuses of the boundary at the cursor
-pub statuses_told : (list other : List ℕ) → AllOf list ≡ AllOf other → list ≡ other
-statuses_told list other is = cc

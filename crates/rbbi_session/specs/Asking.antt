@@ -4,15 +4,16 @@ use Rattle.rbbi_model.specs.Answers.{Question}
 use Rattle.rbbi_model.specs.Costs.{question_cost, edit_cost}
 use Rattle.rbbi_text.specs.declared.error.EditErr.{EditErr}
 use Rattle.rbbi_cache.specs.Edits.{AreKeptAfter}
-use Rattle.rbbi_session.specs.Sessions.{Session}
+use Rattle.rbbi_session.specs.Sessions.{Session, HasTrueRuns}
 use Rattle.rbbi_session.specs.Questions.{Sent, sent_by, IsShown, LeavesRuns}
 
--- At most so much was read, and nothing where a kept run shows the answer. The runs are left as what was asked leaves them.
+-- At most so much was read, and nothing where a kept run shows the answer. The runs are left as what was asked leaves them, and are true.
 pub record IsAsked (old : Session) (sent : Sent) (most : ℕ) (new : Session) (before after : ℕ) : Type 0 where
   pub more : before ≤ after
   pub cost : after ≤ before + most
   pub again : IsShown old.state.text old.runs sent → after ≡ before
   pub runs : LeavesRuns old.table old.state.text sent old.runs new.runs
+  pub are_true : HasTrueRuns new
 
 -- the question reads at most its cost, and leaves what it asks of the kept runs leaves of them
 abbrev pub Asks : Session → Question → Session → ℕ → ℕ → Type 0

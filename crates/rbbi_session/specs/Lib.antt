@@ -4,7 +4,6 @@ pub mod Questions
 pub mod Asking
 pub mod UnitSessions
 pub mod UnitErrors
-pub mod UnitEdits
 pub mod Walks
 pub mod UnitWalks
 pub mod Pausing

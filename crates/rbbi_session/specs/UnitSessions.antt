@@ -1,12 +1,12 @@
--- A session whose places count a unit: what contracts see of one, and what its calls answer and leave.
+-- A session whose places count a unit: what contracts see of one, and what its questions read and leave.
 use Rattle.std.specs.Prelude.{◌≡◌, ℕ, List}
 use Rattle.rbbi_model.specs.declared.unit.Unit.{Unit as TextUnit}
 use Rattle.rbbi_model.specs.Tables.{Table}
-use Rattle.rbbi_model.specs.Answers.{Question, Reply, Answer, answer}
-use Rattle.rbbi_model.specs.Units.{offset_of, measured}
+use Rattle.rbbi_model.specs.Answers.{Question}
+use Rattle.rbbi_model.specs.Units.{offset_of}
 use Rattle.rbbi_model.specs.UnitAnswers.{in_characters}
 use Rattle.rbbi_model.specs.Scripts.{State}
-use Rattle.rbbi_session.specs.Sessions.{Session, IsOpened, boundaries_of}
+use Rattle.rbbi_session.specs.Sessions.{Session, IsOpened}
 use Rattle.rbbi_session.specs.Asking.{Asks}
 
 -- the unit of places, and the session by characters that is asked
@@ -22,27 +22,10 @@ offset_in session place = offset_of session.unit session.asked.state.text place
 abbrev pub state_of : UnitSession → State
 state_of session = record { text = session.asked.state.text; cursor = offset_in session session.asked.state.cursor }
 
--- the answer to the question by the boundaries of the session's text, with offsets for places, from the offset of its cursor
-abbrev pub unit_answer_of : UnitSession → Question → Answer
-unit_answer_of session question =
-    answer (measured session.unit session.asked.state.text (boundaries_of session.asked)) (offset_in session session.asked.state.cursor) question
-
 -- the session stands at the start of the text
 pub record IsOpenedBy (unit : TextUnit) (table : Table) (x : List ℕ) (session : UnitSession) : Type 0 where
   pub unit_is : session.unit ≡ unit
   pub opened : IsOpened table x session.asked
-
--- the session has gone to the offset, and is as before in all else
-pub record UnitMovesTo (old : UnitSession) (offset : ℕ) (new : UnitSession) : Type 0 where
-  pub unit_is : new.unit ≡ old.unit
-  pub table_is : new.asked.table ≡ old.asked.table
-  pub text_is : new.asked.state.text ≡ old.asked.state.text
-  pub cursor_is : offset_in new new.asked.state.cursor ≡ offset
-
--- the session answers the question with this reply, and its cursor goes where the answer says
-pub record UnitAnswers (old : UnitSession) (question : Question) (reply : Reply) (new : UnitSession) : Type 0 where
-  pub replied : reply ≡ (unit_answer_of old question).reply
-  pub moved : UnitMovesTo old (unit_answer_of old question).cursor new
 
 -- The question reads at most the cost of what it asks by characters, and leaves of the kept runs what that leaves.
 abbrev pub UnitAsks : UnitSession → Question → UnitSession → ℕ → ℕ → Type 0

@@ -74,6 +74,12 @@ pub record IsAsked {A Setting : Type 0} (view : View A Setting) (old : A) (quest
   pub paid : RisesUpTo ((kind_of view old).cost (view.state old) question) before after
   pub asks : view.asks old question new before after
 
+-- and this is the reply
+pub record IsAnswered {A Setting : Type 0} (view : View A Setting) (old : A) (question : Question) (reply : Reply) (new : A) (before after : ℕ) : Type 0
+  where
+    pub replied : reply ≡ reply_to view old question
+    pub asked : IsAsked view old question new before after
+
 -- an edit was accepted: the session has the new text, and its cursor is at 0
 pub record IsEdited {A Setting : Type 0} (view : View A Setting) (old : A) (at removed : ℕ) (inserted : List ℕ) (new : A) (before after : ℕ) : Type 0 where
   pub same : view.setting new ≡ view.setting old

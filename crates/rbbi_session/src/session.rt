@@ -82,7 +82,6 @@ impl<'a, T: EditText> Session<'a, T> {
     pub fn last<L: Ledger>(&mut self, steps: &mut Steps<L>) -> u32
         ensures answers { Answers self.old question.Last (Place result) self.new }
         ensures reads { Asks self.old question.Last self.new steps.old steps.new }
-        ensures are_true { HasTrueRuns self.new }
     {
         let len = self.text.len();
         if len == 0 {
@@ -96,7 +95,6 @@ impl<'a, T: EditText> Session<'a, T> {
     pub fn next<L: Ledger>(&mut self, steps: &mut Steps<L>) -> Option<u32>
         ensures answers { Answers self.old question.Next (place_reply result) self.new }
         ensures reads { Asks self.old question.Next self.new steps.old steps.new }
-        ensures are_true { HasTrueRuns self.new }
     {
         if self.here.at >= self.text.len() {
             return None;
@@ -108,7 +106,6 @@ impl<'a, T: EditText> Session<'a, T> {
     pub fn previous<L: Ledger>(&mut self, steps: &mut Steps<L>) -> Option<u32>
         ensures answers { Answers self.old question.Previous (place_reply result) self.new }
         ensures reads { Asks self.old question.Previous self.new steps.old steps.new }
-        ensures are_true { HasTrueRuns self.new }
     {
         if self.here.at == 0 {
             return None;
@@ -116,12 +113,11 @@ impl<'a, T: EditText> Session<'a, T> {
         Some(self.go_before(self.here.at, steps))
     }
 
-    /// Goes to the first boundary past a place, which may lie behind the text. None where there is
+    /// Goes to the first boundary past a place, which may lie after the text. None where there is
     /// none; then the cursor goes to the text's end.
     pub fn following<L: Ledger>(&mut self, o: u32, steps: &mut Steps<L>) -> Option<u32>
         ensures answers { Answers self.old (question.Following o) (place_reply result) self.new }
         ensures reads { Asks self.old (question.Following o) self.new steps.old steps.new }
-        ensures are_true { HasTrueRuns self.new }
     {
         if o >= self.text.len() {
             self.last(steps);
@@ -130,12 +126,11 @@ impl<'a, T: EditText> Session<'a, T> {
         Some(self.go_past(o, steps))
     }
 
-    /// Goes to the last boundary before a place, which may lie behind the text. None where there is
+    /// Goes to the last boundary before a place, which may lie after the text. None where there is
     /// none, as for place 0; then the cursor goes to 0.
     pub fn preceding<L: Ledger>(&mut self, o: u32, steps: &mut Steps<L>) -> Option<u32>
         ensures answers { Answers self.old (question.Preceding o) (place_reply result) self.new }
         ensures reads { Asks self.old (question.Preceding o) self.new steps.old steps.new }
-        ensures are_true { HasTrueRuns self.new }
     {
         if o == 0 {
             self.first();
@@ -149,7 +144,6 @@ impl<'a, T: EditText> Session<'a, T> {
     pub fn is_boundary<L: Ledger>(&mut self, o: u32, steps: &mut Steps<L>) -> bool
         ensures answers { Answers self.old (question.IsBoundary o) (test_reply result) self.new }
         ensures reads { Asks self.old (question.IsBoundary o) self.new steps.old steps.new }
-        ensures are_true { HasTrueRuns self.new }
     {
         if o == 0 {
             self.first();
@@ -236,7 +230,6 @@ impl<'a, T: EditText> Session<'a, T> {
         ensures reads { IsAsked self.old (Past i)
             (forward_cost self.old.table self.old.state.text i)
             self.new steps.old steps.new }
-        ensures are_true { HasTrueRuns self.new }
     {
         self.table.valid();
         let Some(entry) = self.cache.after(self.table, &self.text, i, steps) else {
@@ -256,7 +249,6 @@ impl<'a, T: EditText> Session<'a, T> {
         ensures moved { MovesTo self.old result self.new }
         ensures reads { IsAsked self.old (Back o)
             (preceding_cost self.old.table self.old.state.text o) self.new steps.old steps.new }
-        ensures are_true { HasTrueRuns self.new }
     {
         self.table.valid();
         let Some(entry) = self.cache.before(self.table, &self.text, o, steps) else {

@@ -1,11 +1,10 @@
-//! A session whose places count a unit, as one of any kind.
+//! The questions and edits of a session whose places count a unit.
 ghost use Rattle.rbbi_session.specs.Walks.{Cover, ListsArePaid, Recall};
 
 use crate::{UnitEditErr, UnitSession, Walk};
-use rbbi_text::{Steps, UnitText};
+use rbbi_text::{EditErr, Steps, UnitText};
 use std::sync::ledger::Ledger;
 
-// That the cursor is a boundary is for the proofs.
 impl<T: UnitText> Walk for UnitSession<'_, T> {
     ghost use Rattle.rbbi_session.specs.UnitWalks.{UnitSetting, unit_view};
 
@@ -16,65 +15,71 @@ impl<T: UnitText> Walk for UnitSession<'_, T> {
     ghost view = { unit_view };
 
     fn text(&self) -> &T {
-        UnitSession::text(self)
+        self.asked.text()
     }
 
     fn units(&self) -> u32 {
-        UnitSession::units(self)
+        let text = self.asked.text();
+        text.offset(self.unit, text.len())
     }
 
-    #[tactic(auto, using(crate::proofs::Walking::is_measured))]
     fn current(&self) -> u32 {
-        self.runs_are_true();
-        UnitSession::current(self)
+        self.asked.text().offset(self.unit, self.asked.current())
     }
 
-    #[tactic(auto, using(crate::proofs::Walking::statuses_told))]
     fn status_list(&self) -> &[u32] {
-        UnitSession::status_list(self)
+        // Where the cursor is says that it is within the text.
+        let _here = self.asked.current();
+        self.asked.status_list()
     }
 
-    #[tactic(auto, using(crate::proofs::Walking::unit_asked))]
     fn first(&mut self) -> u32 {
-        self.runs_are_true();
-        UnitSession::first(self)
+        let _here = self.asked.current();
+        self.asked.first()
     }
 
-    #[tactic(auto, using(crate::proofs::Walking::unit_asked))]
     fn last<L: Ledger>(&mut self, steps: &mut Steps<L>) -> u32 {
-        self.runs_are_true();
-        UnitSession::last(self, steps)
+        let _here = self.asked.current();
+        self.asked.last(steps);
+        self.current()
     }
 
     fn next<L: Ledger>(&mut self, steps: &mut Steps<L>) -> Option<u32> {
-        self.runs_are_true();
-        UnitSession::next(self, steps)
+        let _here = self.asked.current();
+        let place = self.asked.next(steps);
+        self.place_found(place)
     }
 
     fn previous<L: Ledger>(&mut self, steps: &mut Steps<L>) -> Option<u32> {
-        self.runs_are_true();
-        UnitSession::previous(self, steps)
+        let _here = self.asked.current();
+        let place = self.asked.previous(steps);
+        self.place_found(place)
     }
 
-    #[tactic(auto, using(crate::proofs::Walking::unit_asked))]
     fn following<L: Ledger>(&mut self, o: u32, steps: &mut Steps<L>) -> Option<u32> {
-        self.runs_are_true();
-        UnitSession::following(self, o, steps)
+        let _here = self.asked.current();
+        let from = self.last_place_up_to(o);
+        let place = self.asked.following(from, steps);
+        self.place_found(place)
     }
 
-    #[tactic(auto, using(crate::proofs::Walking::unit_asked))]
     fn preceding<L: Ledger>(&mut self, o: u32, steps: &mut Steps<L>) -> Option<u32> {
-        self.runs_are_true();
-        UnitSession::preceding(self, o, steps)
+        let _here = self.asked.current();
+        let from = self.first_place_from(o);
+        let place = self.asked.preceding(from.at, steps);
+        self.place_found(place)
     }
 
-    #[tactic(auto, using(crate::proofs::Walking::unit_asked))]
     fn is_boundary<L: Ledger>(&mut self, o: u32, steps: &mut Steps<L>) -> bool {
-        self.runs_are_true();
-        UnitSession::is_boundary(self, o, steps)
+        let _here = self.asked.current();
+        let place = self.first_place_from(o);
+        let is = self.asked.is_boundary(place.at, steps);
+        if !place.whole {
+            return false;
+        }
+        is
     }
 
-    #[tactic(auto, using(crate::proofs::Walking::unit_edits))]
     fn replace<L: Ledger>(
         &mut self,
         at: u32,
@@ -82,7 +87,27 @@ impl<T: UnitText> Walk for UnitSession<'_, T> {
         insert: &str,
         steps: &mut Steps<L>,
     ) -> Result<(), UnitEditErr> {
-        UnitSession::replace(self, at, remove, insert, steps)
+        let units = self.units();
+        if at > units || remove > units - at {
+            return Err(UnitEditErr::Outside);
+        }
+        let first = self.asked.text().index(self.unit, at);
+        if !first.whole {
+            return Err(UnitEditErr::Inside);
+        }
+        let end = self.asked.text().index(self.unit, at + remove);
+        if !end.whole {
+            return Err(UnitEditErr::Inside);
+        }
+        match self
+            .asked
+            .replace(first.at, end.at.saturating_sub(first.at), insert, steps)
+        {
+            Ok(()) => Ok(()),
+            Err(EditErr::Outside) => Err(UnitEditErr::Outside),
+            Err(EditErr::TooLong) => Err(UnitEditErr::TooLong),
+            Err(EditErr::Memory) => Err(UnitEditErr::Memory),
+        }
     }
 
     fn laws()

@@ -1,13 +1,13 @@
 //! Sessions of every kind.
 ghost use Rattle.std.specs.Prelude.{◌≡◌, ℕ, chars};
 ghost use Rattle.rbbi_model.specs.Cover.{IsPlaceOf};
-ghost use Rattle.rbbi_model.specs.Answers.{Place, statuses_at};
+ghost use Rattle.rbbi_model.specs.Answers.{Place, Largest, statuses_at};
 ghost use Rattle.rbbi_model.specs.Answers as question;
 ghost use Rattle.rbbi_session.specs.Sessions.{place_reply, test_reply};
-ghost use Rattle.rbbi_session.specs.Walks.{kind_of, reported, reply_to, IsAsked, Edits};
-ghost use Rattle.rbbi_session.specs.Walks.{Cover, ListsArePaid, Recall};
+ghost use Rattle.rbbi_session.specs.Walks.{kind_of, reported, reply_to, IsAsked, IsAnswered};
+ghost use Rattle.rbbi_session.specs.Walks.{Edits, Cover, ListsArePaid, Recall};
 
-use crate::UnitEditErr;
+use crate::{UnitEditErr, greatest};
 use rbbi_text::{Chars, Steps};
 use std::sync::ledger::Ledger;
 
@@ -15,8 +15,8 @@ use std::sync::ledger::Ledger;
 /// boundaries it reports, what a question and an edit may read, and how it counts places.
 ///
 /// A [`Session`](crate::Session) counts characters, and a [`UnitSession`](crate::UnitSession) a
-/// unit. Who goes over either, or over a session that passes boundaries over or looks for them in a
-/// text that is mapped, takes this.
+/// unit. Other kinds leave boundaries out, or look for them in a text that is mapped. Code for
+/// sessions of every kind is generic over this.
 pub trait Walk {
     ghost use Rattle.rbbi_session.specs.Walks.{View};
 
@@ -46,6 +46,13 @@ pub trait Walk {
     fn status_list(&self) -> &[u32]
         ensures { result.now ≡ statuses_at (reported view self.now) (view.state self.now).cursor };
 
+    /// The greatest status of the boundary at the cursor.
+    fn status(&self) -> u32
+        ensures { Largest result ≡ reply_to view self.now question.Status }
+    {
+        greatest(self.status_list())
+    }
+
     /// Goes to the first boundary, which is 0.
     fn first(&mut self) -> u32
         ensures replied { Place result ≡ reply_to view self.old question.First }
@@ -53,39 +60,36 @@ pub trait Walk {
 
     /// Goes to the last boundary, which is the text's length.
     fn last<L: Ledger>(&mut self, steps: &mut Steps<L>) -> u32
-        ensures replied { Place result ≡ reply_to view self.old question.Last }
-        ensures asked { IsAsked view self.old question.Last self.new steps.old steps.new };
+        ensures { IsAnswered view self.old question.Last (Place result) self.new
+            steps.old steps.new };
 
     /// Goes to the first boundary past the cursor. None where the cursor is at the text's end; then
     /// it stays.
     fn next<L: Ledger>(&mut self, steps: &mut Steps<L>) -> Option<u32>
-        ensures replied { place_reply result ≡ reply_to view self.old question.Next }
-        ensures asked { IsAsked view self.old question.Next self.new steps.old steps.new };
+        ensures { IsAnswered view self.old question.Next (place_reply result) self.new
+            steps.old steps.new };
 
     /// Goes to the last boundary before the cursor. None where the cursor is at 0; then it stays.
     fn previous<L: Ledger>(&mut self, steps: &mut Steps<L>) -> Option<u32>
-        ensures replied { place_reply result ≡ reply_to view self.old question.Previous }
-        ensures asked { IsAsked view self.old question.Previous self.new steps.old steps.new };
-
-    /// Goes to the first boundary past a number, which may lie behind the text. None where there is
-    /// none; then the cursor goes to the text's end.
-    fn following<L: Ledger>(&mut self, o: u32, steps: &mut Steps<L>) -> Option<u32>
-        ensures replied { place_reply result ≡ reply_to view self.old (question.Following o) }
-        ensures asked { IsAsked view self.old (question.Following o) self.new
+        ensures { IsAnswered view self.old question.Previous (place_reply result) self.new
             steps.old steps.new };
 
-    /// Goes to the last boundary before a number, which may lie behind the text. None where there
+    /// Goes to the first boundary past a number, which may lie after the text. None where there is
+    /// none; then the cursor goes to the text's end.
+    fn following<L: Ledger>(&mut self, o: u32, steps: &mut Steps<L>) -> Option<u32>
+        ensures { IsAnswered view self.old (question.Following o) (place_reply result) self.new
+            steps.old steps.new };
+
+    /// Goes to the last boundary before a number, which may lie after the text. None where there
     /// is none, as for 0; then the cursor goes to 0.
     fn preceding<L: Ledger>(&mut self, o: u32, steps: &mut Steps<L>) -> Option<u32>
-        ensures replied { place_reply result ≡ reply_to view self.old (question.Preceding o) }
-        ensures asked { IsAsked view self.old (question.Preceding o) self.new
+        ensures { IsAnswered view self.old (question.Preceding o) (place_reply result) self.new
             steps.old steps.new };
 
     /// Whether a number is a boundary. The cursor goes to the first boundary that isn't before the
     /// number, or where there is none, to the text's end.
     fn is_boundary<L: Ledger>(&mut self, o: u32, steps: &mut Steps<L>) -> bool
-        ensures replied { test_reply result ≡ reply_to view self.old (question.IsBoundary o) }
-        ensures asked { IsAsked view self.old (question.IsBoundary o) self.new
+        ensures { IsAnswered view self.old (question.IsBoundary o) (test_reply result) self.new
             steps.old steps.new };
 
     /// Puts the characters of `insert` in place of so much from `at` on, and the cursor at 0. After

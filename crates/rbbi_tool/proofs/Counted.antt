@@ -50,6 +50,10 @@ pub rises_twice : (first second begun steps steps' : ℕ) → RisesUpTo first be
 rises_twice first second begun steps steps' paid paid' =
     record { more = omega (arith, paid.more, paid'.more); cost = omega (arith, paid.cost, paid'.cost) }
 
+-- so much was read, and no more by this end
+pub ends_early : {read given before now end : ℕ} → RisesUpTo read before now → read ≤ given → RisesUpTo 0 now end → RisesUpTo given before end
+ends_early paid less none = record { more = omega (arith, paid.more, none.more); cost = omega (arith, paid.cost, none.cost, less) }
+
 -- what is read for the lines of boundaries, of replies or of counts
 pub reads_for : (filtered : Stage FilteredBasis) (text : Stage (List ℕ)) (script : Stage (List model.Command))
     (cost_of : Option Filter → Table → List ℕ → List model.Command → ℕ) (bytes before between after : ℕ) (by : FilteredBasis) (table : Table) (x : List ℕ)

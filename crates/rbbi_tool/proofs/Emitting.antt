@@ -1,11 +1,13 @@
 -- Output that is made bit by bit, of which a front went into a sink and the rest waits.
-use Rattle.std.proofs.Common.{◌≡◌, ◌+◌, ℕ, List, [], ◌++◌, length, take, Option, Some, None, refl, sym, ap, ◌∙◌, subst, arith}
+use Rattle.std.proofs.Common.{◌≡◌, ◌+◌, ℕ, List, [], ◌++◌, length, take, Option, Some, None, Result, refl, sym, ap, ◌∙◌, subst, arith}
 use Rattle.std.proofs.Common.{append_assoc, append-nil, length-append}
 use Rattle.std.specs.Prelude.{option_map}
 use Rattle.std.proofs.Math.Seq.{take-append-add}
 use Rattle.std.proofs.lemmas.List.{take-append-le, take_all}
 use Rattle.rbbi_io.specs.Sinks.{Takes, TakesFront, IsBuffered}
+use Rattle.rbbi_io.specs.declared.error.WriteErr.{WriteErr}
 use Rattle.rbbi_io.proofs.Puts.{Takes-both}
+use Rattle.rbbi_tool.specs.inner.Puts.{Puts}
 
 -- a sink that isn't called takes nothing
 pub takes_nothing : (taken : Option (List ℕ)) → Takes taken taken []
@@ -79,3 +81,11 @@ module _ (all rest : List ℕ) (before between : Option (List ℕ)) (waiting : L
   -- for want of memory no more is made
   pub put_stays : TakesFront before between all
   put_stays = put_refused between (0, omega arith, takes_nothing between)
+
+-- the same bytes were put at the same cost
+pub puts_as : {T : Type 0} {bytes bytes' : List ℕ} {cost cost' : ℕ} {r : Result T WriteErr} {taken taken' : Option (List ℕ)} {count count' before after : ℕ}
+    → bytes ≡ bytes' → cost ≡ cost' → Puts bytes cost r taken taken' count count' before after → Puts bytes' cost' r taken taken' count count' before after
+puts_as {bytes' = bytes'} {cost = cost} {r = r} {taken = taken} {taken' = taken'} {count = count} {count' = count'} {before = before} {after = after} same equal
+    puts =
+    subst (λ n. Puts bytes' n r taken taken' count count' before after) equal
+    (subst (λ l. Puts l cost r taken taken' count count' before after) same puts)

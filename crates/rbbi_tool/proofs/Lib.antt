@@ -5,7 +5,6 @@ pub mod Listing
 pub mod Replying
 pub mod Saying
 pub mod Telling
-pub mod Numbers
 pub mod Bases
 pub mod Verdicts
 pub mod Reported

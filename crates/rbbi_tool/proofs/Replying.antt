@@ -22,8 +22,10 @@ use Rattle.rbbi_script.specs.Reading.{IsPaid, Reads}
 use Rattle.rbbi_filter.specs.declared.filter.Filter.{Filter}
 use Rattle.rbbi_filter.specs.FilterSessions.{FilterSession, IsOpened, filter_view}
 use Rattle.rbbi_io.specs.Sinks.{IsBuffered}
+use Rattle.rbbi_io.specs.declared.error.WriteErr.{WriteErr}
 use Rattle.rbbi_tool.specs.inner.Prepared.{costs_of}
-use Rattle.rbbi_tool.proofs.Emitting.{IsPutTo, put_none, put_more, put_flushed}
+use Rattle.rbbi_tool.specs.inner.Puts.{Puts, PutsReplies}
+use Rattle.rbbi_tool.proofs.Emitting.{IsPutTo, put_none, put_more, put_flushed, puts_as}
 
 module _ {A Setting : Type 0} (view : View A Setting) where
   -- the question was the last thing that was asked
@@ -170,12 +172,17 @@ module _ {A Setting : Type 0} (view : View A Setting) (old : A) (commands : List
 -- the replies and the costs of a session that was opened
 module _ {A Setting : Type 0} (view : View A Setting) (session : A) (setting : Setting) (x : List ℕ) (same : view.setting session ≡ setting)
     (state : view.state session ≡ opened x) (commands : List Command) where
-  pub opened_replies : replies_of view session commands ≡ replies_in (view.kind setting) (opened x) commands
+  opened_replies : replies_of view session commands ≡ replies_in (view.kind setting) (opened x) commands
   opened_replies =
       ap (λ s. replies_in (view.kind s) (view.state session) commands) same ∙ ap (λ s. replies_in (view.kind setting) s commands) state
 
-  pub opened_costs : costs_of view session commands ≡ costs_in (view.kind setting) (opened x) None commands
+  opened_costs : costs_of view session commands ≡ costs_in (view.kind setting) (opened x) None commands
   opened_costs = ap (λ s. costs_in (view.kind s) (view.state session) None commands) same ∙ ap (λ s. costs_in (view.kind setting) s None commands) state
+
+  pub opened_puts : {T : Type 0} {r : Result T WriteErr} {taken taken' : Option (List ℕ)} {count count' before after : ℕ} →
+      Puts (all_reply_lines (replies_of view session commands)) (costs_of view session commands) r taken taken' count count' before after →
+      PutsReplies (view.kind setting) x commands r taken taken' count count' before after
+  opened_puts puts = puts_as (ap all_reply_lines opened_replies) opened_costs puts
 
 module _ (unit : TextUnit) (table : Table) (x : List ℕ) (session : UnitSession) (is : IsOpenedBy unit table x session) where
   pub unit_setting : unit_view.setting session ≡ record { table = table; unit = unit }

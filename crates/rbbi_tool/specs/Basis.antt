@@ -28,7 +28,7 @@ use Rattle.rbbi_tool.specs.Rules.{rule_text_stage, told_stage}
 abbrev pub compiled_bytes_stage : List File → Bool → List ℕ → Stage (List Rule)
 compiled_bytes_stage files ignored bytes = followed_by (rule_text_stage bytes) (told_stage (HasTableRules files ignored) (HasFault files ignored))
 
--- the rules of a rule file that has a table, with the property files that are handed in, as they are and behind them
+-- the rules of a rule file that has a table, with the property files that are passed, as they are and after them
 abbrev pub compiled_with : Options → Inputs → Stage (List Rule)
 compiled_with options inputs = compiled_bytes_stage (property_files options.properties inputs.properties) options.ignored inputs.rules
 
@@ -41,7 +41,7 @@ abbrev pub table_place : Option ℕ → Place
 table_place None = Whole
 table_place (Some at) = Byte at
 
--- the bytes are no table file, and the first fault is told
+-- the bytes are no table file, and the first fault is reported
 pub record TellsTableFault (bytes : List ℕ) (refusal : Refusal) : Type 0 where
   pub error : FileErr
   pub refused : ReadsTable bytes (Err error)
@@ -72,7 +72,7 @@ abbrev pub basis_by : Bool → Options → Inputs → Stage Basis
 basis_by false options inputs = followed_by (compiled_with options inputs) (λ rules. gives (ByRules rules))
 basis_by true options inputs = followed_by (table_stage inputs.table) (λ table. gives (ByTable table))
 
--- what boundaries come by, behind the property files that are handed in: by a table file there are none
+-- what boundaries come by, after the property files that are passed: by a table file there are none
 abbrev pub basis_stage : Options → Inputs → Stage Basis
 basis_stage options inputs =
     followed_by (properties_stage options.properties inputs.properties) (λ _. basis_by options.by_table options inputs)

@@ -10,7 +10,7 @@ use Rattle.rbbi_command.specs.Reads.{AreReads, refused_read}
 use Rattle.rbbi_command.specs.Refusals.{Written, status_of, line_of}
 use Rattle.rbbi_tool.specs.Causes.{NamesToWrite}
 
--- A file that the words name was written by one call, or none was.
+-- A file that the arguments name was written by one call, or none was.
 pub record MayWrite {S : Type 0} (writes : S → List ℕ → List ℕ → Result (Unit {0}) WriteErr → S → Type 0) (words : List (List ℕ)) (before now : S) : Type 0 where
   pub file : Option Written
   pub named : IfSome file (λ f. NamesToWrite words f.name)
@@ -27,7 +27,7 @@ pub record AnswersRefusedRead {S : Type 0} (reads : S → List ℕ → ℕ → R
   pub told : status ≤ 6 → Takes taken taken' (line_of (refused_read source error))
 
 -- Some of the files were read in order, by reads of which none was refused. Then memory ran out, or the next read was refused and was the
--- last call; or these are all files, no failed read is told, and one file was written at most.
+-- last call; or these are all files, no failed read is reported, and one file was written at most.
 pub record CallsInOrder {S : Type 0} (reads : S → List ℕ → ℕ → Result (List ℕ) ReadErr → S → Type 0)
     (writes : S → List ℕ → List ℕ → Result (Unit {0}) WriteErr → S → Type 0) (words : List (List ℕ)) (sources : List Source) (before now : S)
     (status : ℕ) (taken taken' : Option (List ℕ)) : Type 0 where

@@ -20,13 +20,13 @@ pub record IsWrittenBy (request : Request) (name : List ℕ) : Type 0 where
   pub written : slice_get (operands_of request.command request.options.by_table) number ≡ Some operand.Written
   pub is : slice_get request.operands number ≡ Some name
 
--- the words name this file to be written
+-- the arguments name this file to be written
 pub record NamesToWrite (words : List (List ℕ)) (name : List ℕ) : Type 0 where
   pub request : Request
   pub asks : IsCommandLine words request
   pub written : IsWrittenBy request name
 
--- the words name this file to be read
+-- the arguments name this file to be read
 pub record NamesToRead (words : List (List ℕ)) (name : List ℕ) : Type 0 where
   pub request : Request
   pub asks : IsCommandLine words request
@@ -35,18 +35,18 @@ pub record NamesToRead (words : List (List ℕ)) (name : List ℕ) : Type 0 wher
   pub is : slice_get (sources_of request) number ≡ Some source
   pub named : source.name ≡ name
 
--- no read of a file that the words name failed
+-- no read of a file that the arguments name failed
 abbrev pub NoReadFailed : List (List ℕ) → (List ℕ → ℕ) → (List ℕ → ℕ) → Type 0
 NoReadFailed words before now = (name : List ℕ) → NamesToRead words name → ¬ Rose (before name) (now name)
 
--- The read of a file that the words name failed, by what the files tell that they hold and by the counts of failed reads
+-- The read of a file that the arguments name failed, by what the files tell that they hold and by the counts of failed reads
 -- before and now, and it was the last that was made.
 pub record ReadFails (words : List (List ℕ)) (contents : Option (List ℕ → List ℕ)) (before now : List ℕ → ℕ) (name : List ℕ) : Type 0 where
   pub request : Request
   pub asks : IsCommandLine words request
   pub fails : FailsToRead (sources_of request) contents before now name
 
--- this line tells that a read of a file failed which the words name
+-- this line tells that a read of a file failed which the arguments name
 abbrev pub TellsFailedRead : List (List ℕ) → Option (List ℕ → List ℕ) → (List ℕ → ℕ) → (List ℕ → ℕ) → List ℕ → Type 0
 TellsFailedRead words contents before now line = (name : List ℕ) × ReadFails words contents before now name × (line ≡ unread_line name)
 
@@ -86,15 +86,15 @@ pub record IsWritten (words : List (List ℕ)) (held held' : List ℕ → List �
 abbrev pub EachHolds : List (List ℕ) → (List ℕ → ℕ) → (List ℕ → ℕ) → (List ℕ → List ℕ) → (List ℕ → List ℕ) → Type 0
 EachHolds words writes writes' held held' = (name : List ℕ) → (held' name ≡ held name) ⊎ IsWritten words held held' writes writes' name
 
--- a write of a file that the words name failed
+-- a write of a file that the arguments name failed
 abbrev pub SomeWriteFailed : List (List ℕ) → (List ℕ → ℕ) → (List ℕ → ℕ) → Type 0
 SomeWriteFailed words writes writes' = (name : List ℕ) × NamesToWrite words name × Rose (writes name) (writes' name)
 
--- no count of failed writes changed but of files that the words name to be written
+-- no count of failed writes changed but of files that the arguments name to be written
 abbrev pub OthersUnwritten : List (List ℕ) → (List ℕ → ℕ) → (List ℕ → ℕ) → Type 0
 OthersUnwritten words writes writes' = (name : List ℕ) → ¬ NamesToWrite words name → writes' name ≡ writes name
 
--- a failed read is told, and that line is all that the sink took
+-- a failed read is reported, and that line is all that the sink took
 abbrev pub TakesFailedRead : List (List ℕ) → Option (List ℕ → List ℕ) → (List ℕ → ℕ) → (List ℕ → ℕ) → Option (List ℕ) → Option (List ℕ) → Type 0
 TakesFailedRead words contents before now taken taken' =
     (line : List ℕ) × TellsFailedRead words contents before now line × Takes taken taken' line

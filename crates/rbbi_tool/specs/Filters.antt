@@ -42,11 +42,11 @@ pub record FilteredBasis : Type 0 where
   pub filter : Option Filter
   pub basis : Basis
 
--- what boundaries come by, behind a filter or none
+-- what boundaries come by, after a filter or none
 abbrev pub behind_filter : Options → Inputs → Option Filter → Stage FilteredBasis
 behind_filter options inputs filter = followed_by (basis_stage options inputs) (λ basis. gives (record { filter = filter; basis = basis }))
 
--- what boundaries come by; where a filter file is named, its filter comes before, and behind the property files
+-- what boundaries come by; where a filter file is named, its filter comes before, and after the property files
 abbrev pub filtered_by : Option FilterKind → Options → Inputs → Stage FilteredBasis
 filtered_by None options inputs = behind_filter options inputs None
 filtered_by (Some kind) options inputs =

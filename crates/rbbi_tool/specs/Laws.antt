@@ -1,4 +1,4 @@
--- What the files of tables tell of rules.
+-- What files of tables say about rules.
 use Rattle.std.specs.Prelude.{◌≡◌, ◌↔◌, List}
 use Rattle.rbbi_model.specs.Rules.{Rule, AreLawful}
 use Rattle.rbbi_model.specs.Tables.{Table}

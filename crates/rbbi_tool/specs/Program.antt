@@ -19,7 +19,7 @@ use Rattle.rbbi_tool.specs.Command.Conform.{conform_stage}
 use Rattle.rbbi_tool.specs.Command.Tally.{tally_stage}
 use Rattle.rbbi_tool.specs.Command.Demo.{demo_stage}
 
--- what the words ask for
+-- what the arguments ask for
 abbrev pub words_stage : List (List ℕ) → Stage Request
 words_stage words = record { passes = IsCommandLine words; refuses = λ refusal. AreNoForm words × (refusal ≡ Usage) }
 

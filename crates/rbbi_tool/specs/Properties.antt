@@ -11,7 +11,7 @@ use Rattle.rbbi_command.specs.declared.refusal.Refusal.TheVariants.{Fault}
 use Rattle.rbbi_command.specs.Stages.{Stage, followed_by}
 use Rattle.rbbi_tool.specs.Texts.{checked_utf8_stage}
 
--- the bytes of a property file of this name are lines that are skipped and rows, or the first bad row is told
+-- the bytes of a property file of this name are lines that are skipped and rows, or the first bad row is reported
 abbrev pub rows_stage : List ℕ → List ℕ → Stage (Unit {0})
 rows_stage name bytes = record {
   passes = λ _. HasRowsAlone bytes;

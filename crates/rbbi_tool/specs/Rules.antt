@@ -1,4 +1,4 @@
--- From the bytes of a rule file to its rules, and how its first fault is told.
+-- From the bytes of a rule file to its rules, and how its first fault is reported.
 use Rattle.std.specs.Prelude.{◌≡◌, ℕ, Bool, List, IsUtf8}
 use Rattle.rbbi_model.specs.Rules.{Rule}
 use Rattle.rbbi_props.specs.Rows.{File}
@@ -15,11 +15,11 @@ use Rattle.rbbi_command.specs.Settings.{Options}
 use Rattle.rbbi_command.specs.Inputs.{Inputs}
 use Rattle.rbbi_tool.specs.Properties.{properties_stage, property_files}
 
--- what an error tells of the text of a rule file
+-- the refusal for an error in the text of a rule file
 abbrev pub fault_in : List ℕ → CompileErr → Refusal
 fault_in x error = Fault Rules (label_of error) (place_in x (place_of error))
 
--- the text has a fault, and it is told
+-- the text has a fault, and it is reported
 abbrev pub TellsFault : (CompileErr → Type 0) → List ℕ → Refusal → Type 0
 TellsFault HasFault x refusal = (error : CompileErr) × HasFault error × (refusal ≡ fault_in x error)
 
@@ -38,7 +38,7 @@ told_stage HasRules HasFault x = record { passes = HasRules x; refuses = TellsFa
 abbrev pub rule_bytes_stage : List File → Bool → List ℕ → Stage (List Rule)
 rule_bytes_stage files ignored bytes = followed_by (rule_text_stage bytes) (told_stage (MeansRules files ignored) (HasRuleFault files ignored))
 
--- the rules of a rule file, behind the property files that are handed in
+-- the rules of a rule file, after the property files that are passed
 abbrev pub rules_stage : Options → Inputs → Stage (List Rule)
 rules_stage options inputs =
     followed_by (properties_stage options.properties inputs.properties)

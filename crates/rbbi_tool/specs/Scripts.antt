@@ -15,13 +15,13 @@ use Rattle.rbbi_command.specs.declared.refusal.Refusal.{Refusal}
 use Rattle.rbbi_command.specs.declared.refusal.Refusal.TheVariants.{Fault, Memory}
 use Rattle.rbbi_command.specs.Stages.{Stage}
 
--- what a fault of a file of lines of this name tells
+-- the refusal for a fault of a file of lines of this name
 abbrev pub lines_fault : List ℕ → LinesErr → Refusal
 lines_fault name (lines.NotUtf8 at) = Fault (File name) (codes "NotUtf8") (Byte at)
 lines_fault name (lines.BadLine line) = Fault (File name) (codes "BadLine") (Row line)
 lines_fault name lines.Memory = Memory
 
--- the bytes are refused, and the first fault is told
+-- the bytes are refused, and the first fault is reported
 pub record TellsLinesFault (IsRefused : LinesErr → Type 0) (name : List ℕ) (refusal : Refusal) : Type 0 where
   pub error : LinesErr
   pub refused : IsRefused error

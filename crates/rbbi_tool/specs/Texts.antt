@@ -11,7 +11,7 @@ use Rattle.rbbi_command.specs.declared.refusal.Refusal.{Refusal}
 use Rattle.rbbi_command.specs.declared.refusal.Refusal.TheVariants.{Fault}
 use Rattle.rbbi_command.specs.Stages.{Stage, followed_by}
 
--- the bytes aren't UTF-8, and the first byte past the longest prefix that is, is told
+-- the bytes aren't UTF-8, and the first byte past the longest prefix that is, is reported
 abbrev pub TellsNotUtf8 : Subject → List ℕ → Refusal → Type 0
 TellsNotUtf8 subject bytes refusal = (at : ℕ) × IsNotUtf8At bytes at × (refusal ≡ Fault subject (codes "NotUtf8") (Byte at))
 

@@ -8,3 +8,4 @@ pub mod Calls
 pub mod Steps
 pub mod Tallying
 pub mod Prepared
+pub mod Puts

@@ -1,4 +1,4 @@
-//! The lines of boundaries, as they go out.
+//! The lines of boundaries, as they are written.
 ghost use Rattle.std.specs.Prelude.{◌≡◌, ◌≤◌, ◌++◌, length, OnOk, OnErr, IsErrOf};
 ghost use Rattle.rbbi_model.specs.Searches.{table_boundaries};
 ghost use Rattle.rbbi_model.specs.Lines.{boundary_lines};
@@ -10,11 +10,12 @@ ghost use Rattle.rbbi_filter.specs.declared.filter.Filter.TheVariants.{Turning};
 ghost use Rattle.rbbi_filter.specs.Filters.{boundaries_through};
 ghost use Rattle.rbbi_filter.specs.FilterCosts.{reporting_cost, breaks_through};
 ghost use Rattle.rbbi_io.specs.Counts.{Rose, GoesOn};
-ghost use Rattle.rbbi_io.specs.Sinks.{Takes, TakesFront, IsBuffered};
+ghost use Rattle.rbbi_io.specs.Sinks.{TakesFront, IsBuffered};
 ghost use Rattle.rbbi_io.specs.declared.error.WriteErr.TheVariants.{Failed};
 ghost use Rattle.rbbi_tool.specs.inner.Filters.{reported_line, reported_lines, scan_cost};
 ghost use Rattle.rbbi_tool.specs.Filters.{kind_in};
 ghost use Rattle.rbbi_tool.specs.Steps.{list_cost};
+ghost use Rattle.rbbi_tool.specs.inner.Puts.{Puts};
 
 use rbbi_filter::{CharMap, Filter, Mapped, Tailoring};
 use rbbi_io::{Sink, WriteErr, put_all, put_when_full};
@@ -24,7 +25,7 @@ use rbbi_text::{Chars, PlainText, Steps, Unit};
 use std::alloc::Global;
 use std::sync::ledger::Ledger;
 
-/// Puts the lines of all boundaries of a text by a table, with their places in a unit, in pieces.
+/// Writes the lines of all boundaries of a text by a table, with their places in a unit, in pieces.
 /// The unit is counted on from boundary to boundary.
 fn put_unit_boundaries<K: Sink, L: Ledger>(
     alloc: Global,
@@ -34,13 +35,10 @@ fn put_unit_boundaries<K: Sink, L: Ledger>(
     out: &mut K,
     steps: &mut Steps<L>,
 ) -> Result<(), WriteErr>
-    ensures ok { OnOk result (Takes (K.taken out.old) (K.taken out.new)
-        (boundary_lines (measured_boundaries table.now unit text.now))) }
-    ensures err { OnErr result (TakesFront (K.taken out.old) (K.taken out.new)
-        (boundary_lines (measured_boundaries table.now unit text.now))) }
-    ensures faults { GoesOn (K.faults out.old) (K.faults out.new) }
-    ensures failed { IsErrOf result Failed → Rose (K.faults out.old) (K.faults out.new) }
-    ensures steps { RisesUpTo (breaks_cost table.now text.now 0) steps.old steps.new }
+    ensures { Puts (boundary_lines (measured_boundaries table.now unit text.now))
+        (breaks_cost table.now text.now 0) result
+        (K.taken out.old) (K.taken out.new) (K.faults out.old) (K.faults out.new)
+        steps.old steps.new }
 {
     rbbi_model::next_boundary_is_past_the_start();
     rbbi_model::anchors_are_stored();
@@ -62,8 +60,8 @@ fn put_unit_boundaries<K: Sink, L: Ledger>(
     Ok(())
 }
 
-/// Adds the line of a boundary of a searched text, where the filter reports it, and then puts what
-/// waits once it is much.
+/// Adds the line of a boundary of a searched text, where the filter reports it, and then writes
+/// what waits once it is much.
 fn put_if_reported<T: Chars, K: Sink, L: Ledger>(
     text: &T,
     filter: &Filter,
@@ -89,7 +87,7 @@ fn put_if_reported<T: Chars, K: Sink, L: Ledger>(
     Ok(())
 }
 
-/// Puts the lines of those boundaries of a searched text by a table that a filter reports, in
+/// Writes the lines of those boundaries of a searched text by a table that a filter reports, in
 /// pieces.
 fn put_searched_boundaries<T: Chars, K: Sink, L: Ledger>(
     alloc: Global,
@@ -99,14 +97,10 @@ fn put_searched_boundaries<T: Chars, K: Sink, L: Ledger>(
     out: &mut K,
     steps: &mut Steps<L>,
 ) -> Result<(), WriteErr>
-    ensures ok { OnOk result (Takes (K.taken out.old) (K.taken out.new) (reported_lines filter.now
-        (T.characters text.now) (table_boundaries table.now (T.characters text.now)))) }
-    ensures err { OnErr result (TakesFront (K.taken out.old) (K.taken out.new)
-        (reported_lines filter.now (T.characters text.now)
-        (table_boundaries table.now (T.characters text.now)))) }
-    ensures faults { GoesOn (K.faults out.old) (K.faults out.new) }
-    ensures failed { IsErrOf result Failed → Rose (K.faults out.old) (K.faults out.new) }
-    ensures steps { RisesUpTo (scan_cost filter.now table.now (T.characters text.now))
+    ensures { Puts (reported_lines filter.now
+        (T.characters text.now) (table_boundaries table.now (T.characters text.now)))
+        (scan_cost filter.now table.now (T.characters text.now)) result
+        (K.taken out.old) (K.taken out.new) (K.faults out.old) (K.faults out.new)
         steps.old steps.new }
 {
     rbbi_model::next_boundary_is_past_the_start();
@@ -127,7 +121,7 @@ fn put_searched_boundaries<T: Chars, K: Sink, L: Ledger>(
     Ok(())
 }
 
-/// Puts the lines of all boundaries of a text by a table, as `map` turns its characters: by the
+/// Writes the lines of all boundaries of a text by a table, as `map` maps its characters: by the
 /// pairs of a filter, in pieces.
 fn put_mapped_boundaries<G: CharMap, K: Sink, L: Ledger>(
     alloc: Global,
@@ -141,19 +135,16 @@ fn put_mapped_boundaries<G: CharMap, K: Sink, L: Ledger>(
 ) -> Result<(), WriteErr>
     requires pairs { filter.now ≡ Turning pairs.now }
     requires turns { Turns (G.can_map map.now) (G.maps map.now) pairs.now }
-    ensures ok { OnOk result (Takes (K.taken out.old) (K.taken out.new)
-        (boundary_lines (boundaries_through filter.now table.now text.now))) }
-    ensures err { OnErr result (TakesFront (K.taken out.old) (K.taken out.new)
-        (boundary_lines (boundaries_through filter.now table.now text.now))) }
-    ensures faults { GoesOn (K.faults out.old) (K.faults out.new) }
-    ensures failed { IsErrOf result Failed → Rose (K.faults out.old) (K.faults out.new) }
-    ensures steps { RisesUpTo (breaks_through filter.now table.now text.now 0) steps.old steps.new }
+    ensures { Puts (boundary_lines (boundaries_through filter.now table.now text.now))
+        (breaks_through filter.now table.now text.now 0) result
+        (K.taken out.old) (K.taken out.new) (K.faults out.old) (K.faults out.new)
+        steps.old steps.new }
 {
     let turned = Mapped::new(text, pairs, map);
     put_searched_boundaries(alloc, table, &turned, filter, out, steps)
 }
 
-/// Puts the lines of all boundaries of a text by a table that are reported through a filter, in
+/// Writes the lines of all boundaries of a text by a table that are reported through a filter, in
 /// pieces.
 fn put_boundaries_through<K: Sink, L: Ledger>(
     alloc: Global,
@@ -163,13 +154,10 @@ fn put_boundaries_through<K: Sink, L: Ledger>(
     out: &mut K,
     steps: &mut Steps<L>,
 ) -> Result<(), WriteErr>
-    ensures ok { OnOk result (Takes (K.taken out.old) (K.taken out.new)
-        (boundary_lines (boundaries_through filter.now table.now text.now))) }
-    ensures err { OnErr result (TakesFront (K.taken out.old) (K.taken out.new)
-        (boundary_lines (boundaries_through filter.now table.now text.now))) }
-    ensures faults { GoesOn (K.faults out.old) (K.faults out.new) }
-    ensures failed { IsErrOf result Failed → Rose (K.faults out.old) (K.faults out.new) }
-    ensures steps { RisesUpTo (breaks_through filter.now table.now text.now 0) steps.old steps.new }
+    ensures { Puts (boundary_lines (boundaries_through filter.now table.now text.now))
+        (breaks_through filter.now table.now text.now 0) result
+        (K.taken out.old) (K.taken out.new) (K.faults out.old) (K.faults out.new)
+        steps.old steps.new }
 {
     match filter {
         Filter::Suppressing(_) => put_searched_boundaries(alloc, table, text, filter, out, steps),
@@ -180,7 +168,7 @@ fn put_boundaries_through<K: Sink, L: Ledger>(
     }
 }
 
-/// Puts the lines of all boundaries of a text by a table that are reported, in a unit or through a
+/// Writes the lines of all boundaries of a text by a table that are reported, in a unit or through a
 /// filter, in pieces.
 pub(crate) fn put_boundaries<K: Sink, L: Ledger>(
     alloc: Global,
@@ -191,13 +179,10 @@ pub(crate) fn put_boundaries<K: Sink, L: Ledger>(
     out: &mut K,
     steps: &mut Steps<L>,
 ) -> Result<(), WriteErr>
-    ensures ok { OnOk result (Takes (K.taken out.old) (K.taken out.new)
-        (boundary_lines ((kind_in filter.now unit table.now).boundaries text.now))) }
-    ensures err { OnErr result (TakesFront (K.taken out.old) (K.taken out.new)
-        (boundary_lines ((kind_in filter.now unit table.now).boundaries text.now))) }
-    ensures faults { GoesOn (K.faults out.old) (K.faults out.new) }
-    ensures failed { IsErrOf result Failed → Rose (K.faults out.old) (K.faults out.new) }
-    ensures steps { RisesUpTo (list_cost filter.now table.now text.now) steps.old steps.new }
+    ensures { Puts (boundary_lines ((kind_in filter.now unit table.now).boundaries text.now))
+        (list_cost filter.now table.now text.now) result
+        (K.taken out.old) (K.taken out.new) (K.faults out.old) (K.faults out.new)
+        steps.old steps.new }
 {
     match filter {
         None => put_unit_boundaries(alloc, table, text, unit, out, steps),

@@ -1,13 +1,13 @@
 //! What a request comes to, as it is written.
-ghost use Rattle.std.specs.Prelude.{◌≡◌, ◌≤◌, ◌⊎◌, OnOk, OnErr, OnSome, IsErrOf};
+ghost use Rattle.std.specs.Prelude.{◌≡◌, ◌≤◌, ◌⊎◌, OnSome};
 ghost use Rattle.rbbi_text.specs.Steps.{RisesUpTo};
 ghost use Rattle.rbbi_io.specs.Counts.{Rose, GoesOn, EachGoesOn, EachStays};
 ghost use Rattle.rbbi_io.specs.Answers.{WhereTold};
 ghost use Rattle.rbbi_io.specs.Sinks.{Takes, TakesFront};
-ghost use Rattle.rbbi_io.specs.declared.error.WriteErr.TheVariants.{Failed};
 ghost use Rattle.rbbi_command.specs.Delivery.{HoldsFile, FileFailed, MakesWrite, OthersUncounted};
 ghost use Rattle.rbbi_command.specs.Delivery.{EachHoldsOrIsOutputFile};
 ghost use Rattle.rbbi_tool.specs.inner.Prepared.{bytes_of, cost_of, outcome_of, rest_of};
+ghost use Rattle.rbbi_tool.specs.inner.Puts.{Puts};
 
 use crate::boundaries::put_boundaries;
 use crate::prepared::{Lines, Prepared};
@@ -19,18 +19,17 @@ use rbbi_text::Steps;
 use std::alloc::Global;
 use std::sync::ledger::Ledger;
 
-/// Puts lines that are made while they go out.
+/// Makes lines, and writes them while they are made.
 fn put_lines<K: Sink, L: Ledger>(
     alloc: Global,
     lines: Lines,
     out: &mut K,
     steps: &mut Steps<L>,
 ) -> Result<(), WriteErr>
-    ensures ok { OnOk result (Takes (K.taken out.old) (K.taken out.new) (bytes_of lines)) }
-    ensures err { OnErr result (TakesFront (K.taken out.old) (K.taken out.new) (bytes_of lines)) }
-    ensures faults { GoesOn (K.faults out.old) (K.faults out.new) }
-    ensures failed { IsErrOf result Failed → Rose (K.faults out.old) (K.faults out.new) }
-    ensures steps { RisesUpTo (cost_of lines) steps.old steps.new }
+    ensures { Puts (bytes_of lines)
+        (cost_of lines) result
+        (K.taken out.old) (K.taken out.new) (K.faults out.old) (K.faults out.new)
+        steps.old steps.new }
 {
     match lines {
         Lines::Boundaries(table, text, unit, filter) => {
@@ -45,9 +44,8 @@ fn put_lines<K: Sink, L: Ledger>(
     }
 }
 
-/// Writes what a request comes to: its file, if it has one, and then what goes out. The result is
-/// the exit status: that of the output, 7 where the write or a put failed, or 8 where memory ran
-/// out.
+/// Writes what a request comes to: its file, if it has one, and then its bytes. The result is the
+/// exit status: that of the output, 7 where the write or a put failed, or 8 where memory ran out.
 pub(crate) fn emit<F: Files, K: Sink, L: Ledger>(
     alloc: Global,
     prepared: Prepared,

@@ -1,4 +1,4 @@
-//! From the bytes of a filter file to its filter, and to the table that boundaries come by behind
+//! From the bytes of a filter file to its filter, and to the table that boundaries come by after
 //! it.
 ghost use Rattle.std.specs.Prelude.{◌≡◌, ◌+◌, ◌≤◌, ℕ, List, length, Some, IfSome};
 ghost use Rattle.rbbi_model.specs.Words.{IsText};

@@ -10,11 +10,11 @@ use rbbi_text::Steps;
 use std::alloc::Global;
 use std::sync::ledger::Ledger;
 
-/// Runs the command that the words ask for, as `rbbi` does, over files and a sink in memory that
-/// never fail. The result is the exit status.
+/// Runs the command that the arguments ask for, as `rbbi` does, over files and a sink in memory
+/// that never fail. The result is the exit status.
 ///
-/// Every call gives the outcome of the words and of what the files hold, or 8 where memory ran out:
-/// 6 and 7 never come.
+/// Every call gives the outcome of the arguments and of what the files hold, or 8 where memory ran
+/// out: 6 and 7 never come.
 pub fn rbbi_in_memory<L: Ledger>(
     alloc: Global,
     words: &Vec<String>,

@@ -1,4 +1,4 @@
-//! The top call of `rbbi`: from the words of the command line to the bytes that go out.
+//! The top call of `rbbi`: from the arguments to the bytes that are written.
 //!
 //! A run goes through stages, each of which passes or refuses: the words, the files that they name,
 //! and then what the command makes of them. `rbbi_command` has what a command is, `command` one

@@ -11,11 +11,11 @@ use rbbi_text::{Pieces, PlainText, Unit};
 pub(crate) enum Prepared {
     /// An output that is made.
     Ready(Output),
-    /// Lines that are made while they go out.
+    /// Lines that are still to be made.
     Waiting(Lines),
 }
 
-/// Lines that are made while they go out.
+/// Lines that are made while they are written.
 #[derive(Drop)]
 pub(crate) enum Lines {
     /// Those of the boundaries of a text by a table, in a unit or through a filter.

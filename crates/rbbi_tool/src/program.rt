@@ -53,7 +53,7 @@ fn run<F: Files, L: Ledger>(
     prepare(alloc, &request, &inputs, steps)
 }
 
-/// What is written: the status, the bytes that go out, and the file.
+/// What is written: the status, the bytes for the sink, and the file.
 fn told(alloc: Global, ended: Result<Prepared, Refusal>) -> Result<Prepared, AllocError>
     ensures gives { IfOk result (λ told. GivesOutcome (answer_of ended) (outcome_of told)) }
     ensures rest { IfOk result (λ told. rest_of told ≡ rest_after ended) }
@@ -72,26 +72,26 @@ fn told(alloc: Global, ended: Result<Prepared, Refusal>) -> Result<Prepared, All
     }
 }
 
-/// Runs the command that the words ask for, over the files, and puts what it answers into `out`.
-/// `words` are the words after the program's name. The result is the exit status.
+/// Runs the command that the arguments ask for, over the files, and writes its output to `out`.
+/// `words` are the arguments, those after the program's name. The result is the exit status.
 ///
 /// | status | comes | what is written |
 /// |---|---|---|
 /// | 0 | all is done | what the command tells |
 /// | 1 | all is done; a test of `conform` or the marks of `same` differ | what the command tells |
-/// | 2 | the words are of no stated form | how to call the program |
+/// | 2 | the arguments are invalid | how to call the program |
 /// | 3 | a rule file is too long, isn't UTF-8 or has a fault | the fault |
-/// | 4 | the table file is too long, or no spelling of a valid table | the fault |
+/// | 4 | the table file is too long, or not a valid table file | the fault |
 /// | 5 | another file is too long, isn't UTF-8, has too many characters or a bad line | the fault |
 /// | 6 | a read of a file failed | the file |
 /// | 7 | a put or a write failed | a prefix of what was to be written |
 /// | 8 | memory ran out | a prefix of what was to be written |
 ///
-/// The words are looked at first, then the files are read in the order of the words; then come the
-/// property files, then a filter file, then the rule file or the table file, for `same` the second
-/// rule file, then the text, and then the script or the tests. A file that the command writes is
-/// written before anything goes out, so where the write fails, nothing goes out. The lines of
-/// `breaks`, `run` and `tally` go out while they are made, as soon as 65,536 bytes or more wait.
+/// The arguments are checked first, then the files are read in their order; then come the property
+/// files, then a filter file, then the rule file or the table file, for `same` the second rule file,
+/// then the text, and then the script or the tests. A file that the command writes is written before
+/// any output, so where that fails, there is no output. The lines of `breaks`, `run` and `tally` are
+/// written while they are made, as soon as 65,536 bytes or more wait.
 /// No call on the files comes after a read or a write that is refused. That none on the sink comes
 /// after a write or a put that is refused is tested.
 pub fn rbbi<F: Files, K: Sink, L: Ledger>(
@@ -103,8 +103,8 @@ pub fn rbbi<F: Files, K: Sink, L: Ledger>(
 ) -> u8
     ensures statuses { result ≤ 8 }
 
-    // 2 comes exactly where the words are of no form, but for a line that can't be put and want of
-    // memory; and then no call is made on the files.
+    // 2 comes exactly where the arguments are invalid, unless the line can't be put or memory runs
+    // out; and then no call is made on the files.
     ensures usage { result ≡ 2 → AreNoForm (map string_bytes words.now.items)
         × Takes (K.taken out.old) (K.taken out.new) usage_line }
     ensures no_form { AreNoForm (map string_bytes words.now.items)
@@ -112,7 +112,7 @@ pub fn rbbi<F: Files, K: Sink, L: Ledger>(
     ensures uncalled { AreNoForm (map string_bytes words.now.items) → files.new ≡ files.old }
 
     // The files are read in the order of the words, each once, and none after one that can't be
-    // read or is too long, which is the one that is told. Then one is written at most.
+    // read or is too long, which is the one that is reported. Then one is written at most.
     ensures calls { (request : Request) → IsCommandLine (map string_bytes words.now.items) request
         → CallsInOrder F.read_gives F.write_gives (map string_bytes words.now.items)
         (sources_of request) files.old files.new result (K.taken out.old) (K.taken out.new) }
@@ -143,13 +143,13 @@ pub fn rbbi<F: Files, K: Sink, L: Ledger>(
         ⊎ SomeWriteFailed (map string_bytes words.now.items)
         (F.failed_writes files.old) (F.failed_writes files.new) }
 
-    // After 7 and 8 nothing was taken, or a prefix of what was to go out, and that only where the
-    // file that the outcome writes holds its bytes: it is written before anything goes out.
+    // After 7 and 8 nothing was taken, or a prefix of the output, and that only where the file that
+    // the outcome writes holds its bytes: it is written before any output.
     ensures front { 7 ≤ result → WhereTold (F.contents files.old) (F.contents files.new)
         (TakesPart (map string_bytes words.now.items) (F.failed_reads files.old)
         (F.failed_reads files.new) (K.taken out.old) (K.taken out.new)) }
 
-    // Where no fault was counted, there is the outcome or want of memory.
+    // Where no fault was counted, there is the outcome or memory ran out.
     ensures complete { NoReadFailed (map string_bytes words.now.items) (F.failed_reads files.old)
         (F.failed_reads files.new) → ¬ Rose (K.faults out.old) (K.faults out.new)
         → ¬ SomeWriteFailed (map string_bytes words.now.items)
@@ -160,7 +160,7 @@ pub fn rbbi<F: Files, K: Sink, L: Ledger>(
 
     // Every file holds what it held, but for one that the outcome writes; and after 2 to 6 that one
     // too. No count falls, and where the files tell what they hold, no failed write is counted but
-    // of a file that the words name to be written.
+    // of a file that the arguments name to be written.
     ensures contents { WhereTold (F.contents files.old) (F.contents files.new)
         (EachHolds (map string_bytes words.now.items)
         (F.failed_writes files.old) (F.failed_writes files.new)) }

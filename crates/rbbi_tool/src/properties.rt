@@ -42,7 +42,7 @@ fn add<L: Ledger>(
 }
 
 /// The rows of the property files, each under the name of its property. The first file that isn't
-/// UTF-8 or has a bad row is told.
+/// UTF-8 or has a bad row is reported.
 pub(crate) fn properties_of<L: Ledger>(
     alloc: Global,
     options: &Options,

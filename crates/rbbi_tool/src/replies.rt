@@ -1,22 +1,16 @@
-//! The lines of replies, as they go out.
-ghost use Rattle.std.specs.Prelude.{◌≡◌, map, None, OnOk, OnErr, IsErrOf};
+//! The lines of replies, as they are written.
+ghost use Rattle.std.specs.Prelude.{map};
 ghost use Rattle.rbbi_model.specs.Scripts.{opened};
 ghost use Rattle.rbbi_model.specs.Lines.{all_reply_lines};
-ghost use Rattle.rbbi_model.specs.Costs.{script_cost};
-ghost use Rattle.rbbi_text.specs.Steps.{RisesUpTo};
-ghost use Rattle.rbbi_session.specs.Walks.{costs_in};
-ghost use Rattle.rbbi_session.specs.UnitWalks.{unit_kind};
 ghost use Rattle.rbbi_script.specs.Meaning.{meaning};
 ghost use Rattle.rbbi_script.specs.Performing.{replies_of, replies_in};
 ghost use Rattle.rbbi_filter.specs.Closures.{AnswersEnds, Turns};
 ghost use Rattle.rbbi_filter.specs.declared.filter.Filter.TheVariants.{Suppressing, Turning};
 ghost use Rattle.rbbi_filter.specs.FilterSessions.{filter_kind};
-ghost use Rattle.rbbi_io.specs.Counts.{Rose, GoesOn};
-ghost use Rattle.rbbi_io.specs.Sinks.{Takes, TakesFront};
-ghost use Rattle.rbbi_io.specs.declared.error.WriteErr.TheVariants.{Failed};
 ghost use Rattle.rbbi_tool.specs.Filters.{kind_in};
 ghost use Rattle.rbbi_tool.specs.Steps.{replies_cost};
 ghost use Rattle.rbbi_tool.specs.inner.Prepared.{costs_of};
+ghost use Rattle.rbbi_tool.specs.inner.Puts.{Puts, PutsReplies};
 
 use rbbi_filter::{Abbreviations, CharMap, Filter, Filtered, Predicate, Tailored, Tailoring};
 use rbbi_io::{Sink, WriteErr, put_all, put_when_full};
@@ -27,7 +21,7 @@ use rbbi_text::{Pieces, Steps, Unit};
 use std::alloc::Global;
 use std::sync::ledger::Ledger;
 
-/// Puts the lines of the replies to all commands, in pieces.
+/// Writes the lines of the replies to all commands, in pieces.
 fn put_replies_of<S: Walk, K: Sink, L: Ledger>(
     alloc: Global,
     session: &mut S,
@@ -35,14 +29,9 @@ fn put_replies_of<S: Walk, K: Sink, L: Ledger>(
     out: &mut K,
     steps: &mut Steps<L>,
 ) -> Result<(), WriteErr>
-    ensures ok { OnOk result (Takes (K.taken out.old) (K.taken out.new)
-        (all_reply_lines (replies_of S.view session.old (map meaning commands.now)))) }
-    ensures err { OnErr result (TakesFront (K.taken out.old) (K.taken out.new)
-        (all_reply_lines (replies_of S.view session.old (map meaning commands.now)))) }
-    ensures faults { GoesOn (K.faults out.old) (K.faults out.new) }
-    ensures failed { IsErrOf result Failed → Rose (K.faults out.old) (K.faults out.new) }
-    ensures steps { RisesUpTo (costs_of S.view session.old (map meaning commands.now))
-        steps.old steps.new }
+    ensures { Puts (all_reply_lines (replies_of S.view session.old (map meaning commands.now)))
+        (costs_of S.view session.old (map meaning commands.now)) result (K.taken out.old)
+        (K.taken out.new) (K.faults out.old) (K.faults out.new) steps.old steps.new }
 {
     S::laws();
     let mut made = Vec::new(alloc);
@@ -54,89 +43,7 @@ fn put_replies_of<S: Walk, K: Sink, L: Ledger>(
     Ok(())
 }
 
-/// Puts the lines of the replies to all commands over a text, by a table, in a unit, in pieces.
-fn put_unit_replies<K: Sink, L: Ledger>(
-    alloc: Global,
-    table: &Table,
-    text: Pieces,
-    unit: Unit,
-    commands: &Commands,
-    out: &mut K,
-    steps: &mut Steps<L>,
-) -> Result<(), WriteErr>
-    ensures ok { OnOk result (Takes (K.taken out.old) (K.taken out.new)
-        (all_reply_lines (replies_in (unit_kind table.now unit) (opened text)
-        (map meaning commands.now)))) }
-    ensures err { OnErr result (TakesFront (K.taken out.old) (K.taken out.new)
-        (all_reply_lines (replies_in (unit_kind table.now unit) (opened text)
-        (map meaning commands.now)))) }
-    ensures faults { GoesOn (K.faults out.old) (K.faults out.new) }
-    ensures failed { IsErrOf result Failed → Rose (K.faults out.old) (K.faults out.new) }
-    ensures steps { RisesUpTo (script_cost table.now unit text (map meaning commands.now))
-        steps.old steps.new }
-{
-    let mut session = UnitSession::open(alloc, table, text, unit)?;
-    put_replies_of(alloc, &mut session, commands, out, steps)
-}
-
-/// Puts the lines of the replies to all commands over a text, by those of its boundaries by a table
-/// that `keep` doesn't hide: those behind no abbreviation, in pieces.
-fn put_filtered_replies<P: Predicate + Drop, K: Sink, L: Ledger>(
-    alloc: Global,
-    table: &Table,
-    text: Pieces,
-    list: &Abbreviations,
-    keep: P,
-    commands: &Commands,
-    out: &mut K,
-    steps: &mut Steps<L>,
-) -> Result<(), WriteErr>
-    requires { AnswersEnds (P.can_ask keep) (P.answers keep) list.now }
-    ensures ok { OnOk result (Takes (K.taken out.old) (K.taken out.new)
-        (all_reply_lines (replies_in (filter_kind (Suppressing list.now) table.now) (opened text)
-        (map meaning commands.now)))) }
-    ensures err { OnErr result (TakesFront (K.taken out.old) (K.taken out.new)
-        (all_reply_lines (replies_in (filter_kind (Suppressing list.now) table.now) (opened text)
-        (map meaning commands.now)))) }
-    ensures faults { GoesOn (K.faults out.old) (K.faults out.new) }
-    ensures failed { IsErrOf result Failed → Rose (K.faults out.old) (K.faults out.new) }
-    ensures steps { RisesUpTo (costs_in (filter_kind (Suppressing list.now) table.now)
-        (opened text) None (map meaning commands.now)) steps.old steps.new }
-{
-    let session = Session::open(alloc, table, text)?;
-    let mut session = Filtered::open(session, list, keep);
-    put_replies_of(alloc, &mut session, commands, out, steps)
-}
-
-/// Puts the lines of the replies to all commands over a text, by the boundaries by a table of the
-/// text as `turning` turns its characters: by these pairs, in pieces.
-fn put_tailored_replies<G: CharMap + Drop, K: Sink, L: Ledger>(
-    alloc: Global,
-    table: &Table,
-    text: Pieces,
-    pairs: &Tailoring,
-    turning: G,
-    commands: &Commands,
-    out: &mut K,
-    steps: &mut Steps<L>,
-) -> Result<(), WriteErr>
-    requires { Turns (G.can_map turning) (G.maps turning) pairs.now }
-    ensures ok { OnOk result (Takes (K.taken out.old) (K.taken out.new)
-        (all_reply_lines (replies_in (filter_kind (Turning pairs.now) table.now) (opened text)
-        (map meaning commands.now)))) }
-    ensures err { OnErr result (TakesFront (K.taken out.old) (K.taken out.new)
-        (all_reply_lines (replies_in (filter_kind (Turning pairs.now) table.now) (opened text)
-        (map meaning commands.now)))) }
-    ensures faults { GoesOn (K.faults out.old) (K.faults out.new) }
-    ensures failed { IsErrOf result Failed → Rose (K.faults out.old) (K.faults out.new) }
-    ensures steps { RisesUpTo (costs_in (filter_kind (Turning pairs.now) table.now)
-        (opened text) None (map meaning commands.now)) steps.old steps.new }
-{
-    let mut session = Tailored::open(alloc, table, text, pairs, turning)?;
-    put_replies_of(alloc, &mut session, commands, out, steps)
-}
-
-/// Puts the lines of the replies to all commands over a text, by a table, in a unit or through a
+/// Writes the lines of the replies to all commands over a text, by a table, in a unit or through a
 /// filter, in pieces.
 pub(crate) fn put_replies<K: Sink, L: Ledger>(
     alloc: Global,
@@ -148,25 +55,23 @@ pub(crate) fn put_replies<K: Sink, L: Ledger>(
     out: &mut K,
     steps: &mut Steps<L>,
 ) -> Result<(), WriteErr>
-    ensures ok { OnOk result (Takes (K.taken out.old) (K.taken out.new)
-        (all_reply_lines (replies_in (kind_in filter.now unit table.now) (opened text)
-        (map meaning commands.now)))) }
-    ensures err { OnErr result (TakesFront (K.taken out.old) (K.taken out.new)
-        (all_reply_lines (replies_in (kind_in filter.now unit table.now) (opened text)
-        (map meaning commands.now)))) }
-    ensures faults { GoesOn (K.faults out.old) (K.faults out.new) }
-    ensures failed { IsErrOf result Failed → Rose (K.faults out.old) (K.faults out.new) }
-    ensures steps { RisesUpTo (replies_cost filter.now unit table.now text
-        (map meaning commands.now)) steps.old steps.new }
+    ensures { Puts (all_reply_lines (replies_in (kind_in filter.now unit table.now) (opened text)
+        (map meaning commands.now)))
+        (replies_cost filter.now unit table.now text (map meaning commands.now)) result
+        (K.taken out.old) (K.taken out.new) (K.faults out.old) (K.faults out.new)
+        steps.old steps.new }
 {
     match filter {
-        None => put_unit_replies(alloc, table, text, unit, commands, out, steps),
+        None => {
+            let mut session = UnitSession::open(alloc, table, text, unit)?;
+            put_replies_of(alloc, &mut session, commands, out, steps)
+        }
         Some(filter) => put_replies_through(alloc, table, text, filter, commands, out, steps),
     }
 }
 
-/// Puts the lines of the replies to all commands over a text, by the boundaries by a table that are
-/// reported through a filter, in pieces.
+/// Writes the lines of the replies to all commands over a text, by the boundaries by a table that
+/// are reported through a filter, in pieces.
 fn put_replies_through<K: Sink, L: Ledger>(
     alloc: Global,
     table: &Table,
@@ -176,16 +81,9 @@ fn put_replies_through<K: Sink, L: Ledger>(
     out: &mut K,
     steps: &mut Steps<L>,
 ) -> Result<(), WriteErr>
-    ensures ok { OnOk result (Takes (K.taken out.old) (K.taken out.new)
-        (all_reply_lines (replies_in (filter_kind filter.now table.now) (opened text)
-        (map meaning commands.now)))) }
-    ensures err { OnErr result (TakesFront (K.taken out.old) (K.taken out.new)
-        (all_reply_lines (replies_in (filter_kind filter.now table.now) (opened text)
-        (map meaning commands.now)))) }
-    ensures faults { GoesOn (K.faults out.old) (K.faults out.new) }
-    ensures failed { IsErrOf result Failed → Rose (K.faults out.old) (K.faults out.new) }
-    ensures steps { RisesUpTo (costs_in (filter_kind filter.now table.now) (opened text) None
-        (map meaning commands.now)) steps.old steps.new }
+    ensures { PutsReplies (filter_kind filter.now table.now) text (map meaning commands.now)
+        result (K.taken out.old) (K.taken out.new) (K.faults out.old) (K.faults out.new)
+        steps.old steps.new }
 {
     match filter {
         Filter::Suppressing(list) => {
@@ -197,4 +95,47 @@ fn put_replies_through<K: Sink, L: Ledger>(
             put_tailored_replies(alloc, table, text, pairs, turning, commands, out, steps)
         }
     }
+}
+
+/// Writes the lines of the replies to all commands over a text, by those of its boundaries by a
+/// table that `keep` doesn't hide: those after no abbreviation, in pieces.
+fn put_filtered_replies<P: Predicate + Drop, K: Sink, L: Ledger>(
+    alloc: Global,
+    table: &Table,
+    text: Pieces,
+    list: &Abbreviations,
+    keep: P,
+    commands: &Commands,
+    out: &mut K,
+    steps: &mut Steps<L>,
+) -> Result<(), WriteErr>
+    requires { AnswersEnds (P.can_ask keep) (P.answers keep) list.now }
+    ensures { PutsReplies (filter_kind (Suppressing list.now) table.now) text
+        (map meaning commands.now) result (K.taken out.old) (K.taken out.new)
+        (K.faults out.old) (K.faults out.new) steps.old steps.new }
+{
+    let session = Session::open(alloc, table, text)?;
+    let mut session = Filtered::open(session, list, keep);
+    put_replies_of(alloc, &mut session, commands, out, steps)
+}
+
+/// Writes the lines of the replies to all commands over a text, by the boundaries by a table of the
+/// text as `turning` maps its characters: by these pairs, in pieces.
+fn put_tailored_replies<G: CharMap + Drop, K: Sink, L: Ledger>(
+    alloc: Global,
+    table: &Table,
+    text: Pieces,
+    pairs: &Tailoring,
+    turning: G,
+    commands: &Commands,
+    out: &mut K,
+    steps: &mut Steps<L>,
+) -> Result<(), WriteErr>
+    requires { Turns (G.can_map turning) (G.maps turning) pairs.now }
+    ensures { PutsReplies (filter_kind (Turning pairs.now) table.now) text
+        (map meaning commands.now) result (K.taken out.old) (K.taken out.new)
+        (K.faults out.old) (K.faults out.new) steps.old steps.new }
+{
+    let mut session = Tailored::open(alloc, table, text, pairs, turning)?;
+    put_replies_of(alloc, &mut session, commands, out, steps)
 }

@@ -1,4 +1,4 @@
-//! From the bytes of a rule file to its rules, and how its faults are told.
+//! From the bytes of a rule file to its rules, and how its faults are reported.
 ghost use Rattle.std.specs.Prelude.{◌≡◌, ◌≢◌, ◌≤◌, ◌⊎◌, length, IfOk};
 ghost use Rattle.std.specs.Str.{chars};
 ghost use Rattle.rbbi_text.specs.Bytes.{most_bytes};
@@ -24,7 +24,7 @@ pub(crate) fn text_of(alloc: Global, bytes: &[u8]) -> Result<&str, Refusal>
     }
 }
 
-/// What an error tells of the text of a rule file, or want of memory.
+/// The refusal for an error in the text of a rule file, or that memory ran out.
 pub(crate) fn told(alloc: Global, text: &str, error: &CompileErr) -> Refusal
     requires { length text.now ≤ most_bytes }
     ensures { (result ≡ Refusal.Memory) ⊎ ((error.now ≢ CompileErr.Memory)

@@ -14,7 +14,7 @@ use rbbi_text::{LinesErr, Steps};
 use std::alloc::Global;
 use std::sync::ledger::Ledger;
 
-/// What a fault of a file of lines of this name tells, or want of memory.
+/// The refusal for a fault of a file of lines of this name, or that memory ran out.
 pub(crate) fn lines_refusal(alloc: Global, name: &str, error: LinesErr) -> Refusal
     ensures { (result ≡ Refusal.Memory)
         ⊎ ((error ≢ LinesErr.Memory) × (result ≡ spec.lines_fault name.now error)) }

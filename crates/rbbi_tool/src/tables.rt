@@ -59,7 +59,7 @@ pub(crate) fn read(alloc: Global, bytes: &[u8]) -> Result<Table, Refusal>
     }
 }
 
-/// The table that boundaries come by, behind property files that were read and have no fault.
+/// The table that boundaries come by, after property files that were read and have no fault.
 pub(crate) fn table_behind<L: Ledger>(
     alloc: Global,
     options: &Options,

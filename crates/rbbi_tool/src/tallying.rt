@@ -1,15 +1,13 @@
 //! What `tally` tells, as it is written.
-ghost use Rattle.std.specs.Prelude.{◌≡◌, map, OnOk, OnErr, IsErrOf};
+ghost use Rattle.std.specs.Prelude.{◌≡◌, map, OnOk};
 ghost use Rattle.std.specs.List.{flat_map};
 ghost use Rattle.rbbi_text.specs.Appending.{Appends};
 ghost use Rattle.rbbi_text.specs.Steps.{RisesUpTo};
 ghost use Rattle.rbbi_script.specs.Meaning.{meaning};
 ghost use Rattle.rbbi_tally.specs.Tallies.{boundaries_of};
-ghost use Rattle.rbbi_io.specs.Counts.{Rose, GoesOn};
-ghost use Rattle.rbbi_io.specs.Sinks.{Takes, TakesFront};
-ghost use Rattle.rbbi_io.specs.declared.error.WriteErr.TheVariants.{Failed};
 ghost use Rattle.rbbi_tool.specs.Command.Tally.{count_line, text_after};
 ghost use Rattle.rbbi_tool.specs.Steps.{counting_cost, tally_cost};
+ghost use Rattle.rbbi_tool.specs.inner.Puts.{Puts};
 ghost use Rattle.rbbi_tool.specs.inner.Tallying.{lines_of, command_lines, tally_lines};
 
 use rbbi_io::{Sink, WriteErr, put_all, put_when_full};
@@ -89,7 +87,7 @@ fn tell<L: Ledger>(
     }
 }
 
-/// Puts the counts of a text by a table, and what is told of commands, in pieces.
+/// Writes the counts of a text by a table, and what is reported of commands, in pieces.
 pub(crate) fn put_tally<K: Sink, L: Ledger>(
     alloc: Global,
     table: &Table,
@@ -98,13 +96,9 @@ pub(crate) fn put_tally<K: Sink, L: Ledger>(
     out: &mut K,
     steps: &mut Steps<L>,
 ) -> Result<(), WriteErr>
-    ensures ok { OnOk result (Takes (K.taken out.old) (K.taken out.new)
-        (tally_lines table.now text (map meaning commands.now))) }
-    ensures err { OnErr result (TakesFront (K.taken out.old) (K.taken out.new)
-        (tally_lines table.now text (map meaning commands.now))) }
-    ensures faults { GoesOn (K.faults out.old) (K.faults out.new) }
-    ensures failed { IsErrOf result Failed → Rose (K.faults out.old) (K.faults out.new) }
-    ensures steps { RisesUpTo (tally_cost table.now text (map meaning commands.now))
+    ensures { Puts (tally_lines table.now text (map meaning commands.now))
+        (tally_cost table.now text (map meaning commands.now)) result
+        (K.taken out.old) (K.taken out.new) (K.faults out.old) (K.faults out.new)
         steps.old steps.new }
 {
     let mut tally = Tally::open(alloc, table, text, steps)?;

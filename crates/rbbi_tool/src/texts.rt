@@ -14,7 +14,7 @@ macro_rules! taken {
     ($alloc:ident, $file:ident, $taken:expr) => {
         match $taken {
             Ok(text) => {
-                // With its length it is told that these are characters.
+                // Its length says that these are characters.
                 let _length = text.len();
                 Ok(text)
             }

@@ -1,4 +1,4 @@
--- Keys of characters, by which most abbreviations that they don't end with are told apart.
+-- Keys of characters, by which most abbreviations that they don't end with are distinguished.
 use Rattle.std.specs.Prelude.{◌≡◌, ℕ, ◌+◌, ◌-◌, ◌≤◌, ◌||◌, nat_lt, List, length, slice_index, if◌then◌else◌}
 use Rattle.rbbi_filter.specs.Abbreviations.{is_white_space}
 

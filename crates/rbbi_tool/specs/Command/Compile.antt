@@ -12,7 +12,7 @@ use Rattle.rbbi_command.specs.Stages.{Stage, followed_by}
 use Rattle.rbbi_command.specs.Refusals.{Outcome}
 use Rattle.rbbi_tool.specs.Basis.{compiled_stage}
 
--- the table's file is written under the name, in version 2, and its numbers are told
+-- the table's file is written under the name, in version 2, and its numbers are reported
 abbrev pub table_outcome : List ℕ → Table → Outcome
 table_outcome name table = record { status = 0; bytes = compile_line table; file = Some (record { name = name; bytes = spelling table }) }
 
@@ -22,7 +22,7 @@ pub record IsCanonicalOf (rules : List Rule) (canonical : Table) : Type 0 where
   pub compiled : IsCompiled table rules
   pub made : IsCanonical table canonical
 
--- The rules are lawful: the file of a canonical table of them is written under the name, and the numbers of that one are told.
+-- The rules are lawful: the file of a canonical table of them is written under the name, and the numbers of that one are reported.
 pub record TellsTable (rules : List Rule) (name : List ℕ) (outcome : Outcome) : Type 0 where
   pub lawful : AreLawful rules
   pub canonical : Table

@@ -18,7 +18,7 @@ demo_rules = codes "$W = [a-c]; $X = [\\u0308]; $D = [12];\n$W ($W | $X)* {200};
 abbrev pub number_stage : List ℕ → Stage ℕ
 number_stage word = record { passes = IsCount word; refuses = λ _. ⊥ }
 
--- what is told of a summary
+-- what is reported of a summary
 abbrev pub summary_line : Summary → List ℕ
 summary_line summary = demo_line summary.chars summary.edits summary.boundaries summary.sum
 

@@ -58,15 +58,15 @@ told_character c = 32 ∷ code_point_digits c
 abbrev pub difference_line : List ℕ → List ℕ
 difference_line w = line (codes "differ" ++ flat_map told_character w)
 
--- the text is told, with status 1
+-- the text is reported, with status 1
 abbrev pub told_difference : List ℕ → Outcome
 told_difference w = record { status = 1; bytes = difference_line w; file = None }
 
--- that the marks are the same is told
+-- that the marks are the same is reported
 abbrev pub told_same : Outcome
 told_same = printed (line (codes "same"))
 
--- the rules have the same marks after every text, and this is told; or one text is, after which they differ
+-- the rules have the same marks after every text, and this is reported; or one text is, after which they differ
 abbrev pub IsComparison : List Rule → List Rule → Outcome → Type 0
 IsComparison rules others outcome =
     (HaveSameMarks rules others × (outcome ≡ told_same)) ⊎ ((w : List ℕ) × DifferAfter rules others w × (outcome ≡ told_difference w))
@@ -80,7 +80,7 @@ abbrev pub told_of_second : Refusal → Refusal
 told_of_second (Fault Rules label place) = Fault OtherRules label place
 told_of_second refusal = refusal
 
--- the stage, whose faults are told of the second rule file
+-- the stage, whose faults are reported of the second rule file
 abbrev pub as_second : {A : Type 0} → Stage A → Stage A
 as_second {A} stage =
     record { passes = stage.passes; refuses = λ refusal. (told : Refusal) × stage.refuses told × (refusal ≡ told_of_second told) }
@@ -90,7 +90,7 @@ abbrev pub second_stage : List File → Bool → Inputs → List Rule → Stage 
 second_stage files ignored inputs rules =
     followed_by (as_second (compiled_bytes_stage files ignored inputs.other_rules)) (comparison_stage rules)
 
--- whether two rule files have the same marks, with the property files that are handed in for both: the first, and then the second
+-- whether two rule files have the same marks, with the property files that are passed for both: the first, and then the second
 abbrev pub same_stage : Options → Inputs → Stage Outcome
 same_stage options inputs =
     followed_by (compiled_stage options inputs)

@@ -36,7 +36,7 @@ pub record TellText (basis : Basis) (x lines : List ℕ) : Type 0 where
   pub are : AreBoundariesBy basis x boundaries
   pub tell : TellCounts boundaries lines
 
--- what is told of an edit: its reply, and after an accepted one the counts of the new text
+-- what is reported of an edit: its reply, and after an accepted one the counts of the new text
 abbrev pub TellEdit : Basis → Edit → List ℕ → Type 0
 TellEdit basis (Refused reply) lines = lines ≡ reply_lines reply
 TellEdit basis (Accepted text length) lines = (counts : List ℕ) × TellText basis text counts × (lines ≡ reply_lines (Edited length) ++ counts)
@@ -52,19 +52,19 @@ text_after x (Ask question) = x
 text_after x (Replace at removed inserted) = edited_text x (edit x at removed inserted)
 text_after x ShowText = x
 
--- what is told of a command: of one that isn't an edit, nothing
+-- what is reported of a command: of one that isn't an edit, nothing
 abbrev pub TellCommand : Basis → List ℕ → Command → List ℕ → Type 0
 TellCommand basis x (Ask question) lines = lines ≡ []
 TellCommand basis x (Replace at removed inserted) lines = TellEdit basis (edit x at removed inserted) lines
 TellCommand basis x ShowText lines = lines ≡ []
 
--- what is told of the commands, each over the text of its moment
+-- what is reported of the commands, each over the text of its moment
 abbrev pub TellCommands : Basis → List ℕ → List Command → List ℕ → Type 0
 TellCommands basis x [] lines = lines ≡ []
 TellCommands basis x (command ∷ commands) lines =
     (first rest : List ℕ) × TellCommand basis x command first × TellCommands basis (text_after x command) commands rest × (lines ≡ first ++ rest)
 
--- the counts of the text, and then what is told of the commands
+-- the counts of the text, and then what is reported of the commands
 pub record TellTally (basis : Basis) (x : List ℕ) (commands : List Command) (outcome : Outcome) : Type 0 where
   pub counts : List ℕ
   pub told : List ℕ

@@ -14,7 +14,7 @@ ReadsTo gives sources before (Ok _) now = AreReads gives sources before (length 
 ReadsTo gives sources before (Err refusal) now =
     StopsReading gives sources before refusal now ⊎ ((status_of refusal ≢ 6) × AreReads gives sources before (length sources) now)
 
--- For words of no form no file is read, and else those of the request.
+-- Where the arguments are invalid no file is read, and otherwise those of the request.
 pub record ReadsAsAsked {S T : Type 0} (gives : S → List ℕ → ℕ → Result (List ℕ) ReadErr → S → Type 0) (words : List (List ℕ)) (before : S)
     (result : Result T Refusal) (now : S) : Type 0 where
   pub unread : AreNoForm words → now ≡ before

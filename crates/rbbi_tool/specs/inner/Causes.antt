@@ -1,4 +1,4 @@
--- What a run comes to before anything is written, and what is told of it.
+-- What a run comes to before anything is written, and what is reported of it.
 use Rattle.std.specs.Prelude.{◌≡◌, ◌≢◌, ◌≤◌, ℕ, List, Option, None, IfSome, Result, Ok, Err}
 use Rattle.rbbi_model.specs.Lines.{usage_line}
 use Rattle.rbbi_io.specs.Counts.{EachStays}
@@ -20,12 +20,12 @@ ComesTo words contents before now (Err (Fault subject label place)) =
     (¬ AreNoForm words) × IfSome contents (λ held. (run_stage words held).refuses (Fault subject label place)) × EachStays before now
 ComesTo words contents before now (Err Memory) = Unit {0}
 
--- what is told of an output, or of what ends a run; of want of memory nothing is
+-- what is reported of an output, or of what ends a run; where memory ran out, nothing is
 abbrev pub GivesOutcome : Result Outcome Refusal → Outcome → Type 0
 GivesOutcome (Ok output) outcome = outcome ≡ output
 GivesOutcome (Err refusal) outcome = (refusal ≢ Memory) × (outcome ≡ refused refusal)
 
--- What the program answers, before anything is written: a status from 0 to 6, all that goes out, and the file that is written.
+-- What the program answers, before anything is written: a status from 0 to 6, all that is written to the sink, and the file that is written.
 pub record IsAnswer (words : List (List ℕ)) (contents : Option (List ℕ → List ℕ)) (before now : List ℕ → ℕ) (outcome : Outcome) : Type 0 where
   pub low : outcome.status ≤ 6
   pub file : IfSome outcome.file (λ file. NamesToWrite words file.name)

@@ -1,4 +1,4 @@
--- The verdicts on tests by a table, and what is told of them.
+-- The verdicts on tests by a table, and what is reported of them.
 use Rattle.std.specs.Prelude.{◌≡◌, ℕ, List, [], ◌∷◌}
 use Rattle.rbbi_model.specs.Words.{IsText}
 use Rattle.rbbi_model.specs.Tables.{Table}

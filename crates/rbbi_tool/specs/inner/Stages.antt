@@ -4,12 +4,12 @@ use Rattle.rbbi_command.specs.declared.refusal.Refusal.{Refusal}
 use Rattle.rbbi_command.specs.declared.refusal.Refusal.TheVariants.{Memory}
 use Rattle.rbbi_command.specs.Stages.{Stage}
 
--- What a function answers that runs the stage, where its value is seen by this view. Want of memory tells nothing.
+-- What a function answers that runs the stage, where its value is seen by this view. That memory ran out says nothing.
 abbrev pub Meets : {A V : Type 0} → (V → A) → Stage A → Result V Refusal → Type 0
 Meets view stage (Ok value) = stage.passes (view value)
 Meets view stage (Err refusal) = (refusal ≡ Memory) ⊎ stage.refuses refusal
 
--- What a function answers that runs the stage, where its value is so related to the stage's. Want of memory tells nothing.
+-- What a function answers that runs the stage, where its value is so related to the stage's. That memory ran out says nothing.
 abbrev pub Serves : {A V : Type 0} → (V → A → Type 0) → Stage A → Result V Refusal → Type 0
 Serves {A} related stage (Ok value) = (a : A) × stage.passes a × related value a
 Serves related stage (Err refusal) = (refusal ≡ Memory) ⊎ stage.refuses refusal

@@ -11,7 +11,7 @@ use Rattle.rbbi_tool.specs.inner.Prepared.{ReadsByEnd}
 abbrev pub basis_bytes : Inputs → ℕ
 basis_bytes inputs = sum_by length inputs.properties + length inputs.rules + length inputs.table
 
--- the bytes that boundaries come by behind a filter
+-- the bytes that boundaries come by after a filter
 abbrev pub filtered_bytes : Inputs → ℕ
 filtered_bytes inputs = basis_bytes inputs + length inputs.filter.bytes
 

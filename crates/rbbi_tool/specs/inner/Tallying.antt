@@ -29,12 +29,12 @@ counts_of boundaries = counts_below (count boundaries) (suc (largest_of boundari
 abbrev pub lines_of : List Boundary → List ℕ
 lines_of boundaries = count_lines (segment_count boundaries) (counts_of boundaries)
 
--- what is told of an edit by the table
+-- what is reported of an edit by the table
 abbrev pub edit_lines : Table → Edit → List ℕ
 edit_lines table (Refused reply) = reply_lines reply
 edit_lines table (Accepted text length) = reply_lines (Edited length) ++ lines_of (table_boundaries table text)
 
--- what is told of a command, and of commands
+-- what is reported of a command, and of commands
 abbrev pub command_lines : Table → List ℕ → Command → List ℕ
 command_lines table x (Ask question) = []
 command_lines table x (Replace at removed inserted) = edit_lines table (edit x at removed inserted)
@@ -44,6 +44,6 @@ abbrev pub commands_lines : Table → List ℕ → List Command → List ℕ
 commands_lines table x [] = []
 commands_lines table x (command ∷ commands) = command_lines table x command ++ commands_lines table (text_after x command) commands
 
--- all that is told
+-- all that is reported
 abbrev pub tally_lines : Table → List ℕ → List Command → List ℕ
 tally_lines table x commands = lines_of (table_boundaries table x) ++ commands_lines table x commands

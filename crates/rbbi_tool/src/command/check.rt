@@ -10,8 +10,7 @@ ghost use Rattle.rbbi_tool.specs.Command.Check as spec;
 use crate::prepared::Prepared;
 use crate::properties::properties_of;
 use crate::rules::rules_of_bytes;
-use itoa::Buffer;
-use rbbi_command::{Inputs, Options, Output, Refusal, joined};
+use rbbi_command::{Inputs, Options, Output, Refusal};
 use rbbi_resolve::Rules;
 use rbbi_text::Steps;
 use std::alloc::{AllocError, Global};
@@ -21,24 +20,9 @@ use std::sync::ledger::Ledger;
 fn counts_line(alloc: Global, rules: &Rules) -> Result<Vec<u8>, AllocError>
     ensures { IfOk result (λ line. line.items ≡ spec.counts_line (rules_of rules.now)) }
 {
-    let mut count = Buffer::new();
-    let mut slashes = Buffer::new();
-    let mut leaves = Buffer::new();
-    let count = count.format(rules.len()).as_bytes();
-    let slashes = slashes.format(rules.slashes()).as_bytes();
-    let leaves = leaves.format(rules.leaves()).as_bytes();
-    joined(
-        alloc,
-        &[
-            b"rules ",
-            count,
-            b" slashes ",
-            slashes,
-            b" leaves ",
-            leaves,
-            b"\n",
-        ],
-    )
+    let (count, slashes, leaves) = (rules.len(), rules.slashes(), rules.leaves());
+    let line = format!(in alloc; "rules {count} slashes {slashes} leaves {leaves}\n")?;
+    Ok(line.into_bytes())
 }
 
 /// The counts of the rules of a rule file.

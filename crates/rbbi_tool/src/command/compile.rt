@@ -11,8 +11,7 @@ ghost use Rattle.rbbi_tool.specs.Command.Compile.{IsCanonicalOf, compile_stage, 
 use crate::prepared::Prepared;
 use crate::properties::properties_of;
 use crate::tables::table_of_rules;
-use itoa::Buffer;
-use rbbi_command::{Inputs, Name, Options, Output, Refusal, Written, joined};
+use rbbi_command::{Inputs, Name, Options, Output, Refusal, Written};
 use rbbi_table::Table;
 use rbbi_text::Steps;
 use std::alloc::{AllocError, Global};
@@ -22,32 +21,12 @@ use std::sync::ledger::Ledger;
 fn numbers_line(alloc: Global, table: &Table) -> Result<Vec<u8>, AllocError>
     ensures { IfOk result (λ line. line.items ≡ compile_line table.now) }
 {
-    let mut categories = Buffer::new();
-    let mut rows = Buffer::new();
-    let mut lists = Buffer::new();
-    let mut slashes = Buffer::new();
-    let mut safe = Buffer::new();
-    let categories = categories.format(table.categories()).as_bytes();
-    let rows = rows.format(table.rows()).as_bytes();
-    let lists = lists.format(table.lists()).as_bytes();
-    let slashes = slashes.format(table.slashes()).as_bytes();
-    let safe = safe.format(table.safe_count()).as_bytes();
-    joined(
-        alloc,
-        &[
-            b"categories ",
-            categories,
-            b" rows ",
-            rows,
-            b" lists ",
-            lists,
-            b" slashes ",
-            slashes,
-            b" safe ",
-            safe,
-            b"\n",
-        ],
-    )
+    let (categories, rows, lists) = (table.categories(), table.rows(), table.lists());
+    let (slashes, safe) = (table.slashes(), table.safe_count());
+    let line = format!(in alloc;
+        "categories {categories} rows {rows} lists {lists} slashes {slashes} safe {safe}\n"
+    )?;
+    Ok(line.into_bytes())
 }
 
 /// The canonical table of a rule file. The first fault is that of the property files, or of the

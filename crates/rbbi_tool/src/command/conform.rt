@@ -12,15 +12,14 @@ ghost use Rattle.rbbi_tool.specs.Command.Conform as spec;
 use crate::prepared::Prepared;
 use crate::scripts::tests_of;
 use crate::tables::table_from;
-use itoa::Buffer;
-use rbbi_command::{Inputs, Options, Output, Refusal, joined};
+use rbbi_command::{Inputs, Options, Output, Refusal};
 use rbbi_conform::{Test, Tests, Verdict, judge};
 use rbbi_table::{FrontPlaces, Table};
 use rbbi_text::{Chars, Steps};
 use std::alloc::{AllocError, Global};
 use std::sync::ledger::Ledger;
 
-/// What is told of tests: a line for each that differs, and how many pass and differ.
+/// What is reported of tests: a line for each that differs, and how many pass and differ.
 #[derive(Debug, Drop)]
 struct Report {
     lines: Vec<u8>,
@@ -32,11 +31,9 @@ struct Report {
 fn line_of(alloc: Global, test: &Test, place: u32) -> Result<Vec<u8>, AllocError>
     ensures { IfOk result (λ line. line.items ≡ differs_line test.now.line place) }
 {
-    let mut row = Buffer::new();
-    let mut at = Buffer::new();
-    let row = row.format(test.line()).as_bytes();
-    let at = at.format(place).as_bytes();
-    joined(alloc, &[b"line ", row, b" place ", at, b"\n"])
+    let row = test.line();
+    let line = format!(in alloc; "line {row} place {place}\n")?;
+    Ok(line.into_bytes())
 }
 
 /// Adds a test with its verdict.
@@ -81,7 +78,7 @@ fn report_of<L: Ledger>(
     };
     for i in 0..tests.len() {
         let test = tests.get(i);
-        // With its length it is told that these are characters.
+        // Its length says that these are characters.
         let _length = test.text().len();
         let verdict = judge(table, test, &mut marks, steps);
         add(&mut report, alloc, test, verdict)?;
@@ -93,11 +90,8 @@ fn report_of<L: Ledger>(
 fn counts_line(alloc: Global, passed: usize, failed: usize) -> Result<Vec<u8>, AllocError>
     ensures { IfOk result (λ line. line.items ≡ verdicts_line passed failed) }
 {
-    let mut good = Buffer::new();
-    let mut bad = Buffer::new();
-    let good = good.format(passed).as_bytes();
-    let bad = bad.format(failed).as_bytes();
-    joined(alloc, &[b"passed ", good, b" failed ", bad, b"\n"])
+    let line = format!(in alloc; "passed {passed} failed {failed}\n")?;
+    Ok(line.into_bytes())
 }
 
 /// The exit status: 1 where a test differs.

@@ -8,8 +8,7 @@ ghost use Rattle.rbbi_tool.specs.Command.Demo as spec;
 
 use crate::prepared::Prepared;
 use crate::tables::table_of_rules;
-use itoa::Buffer;
-use rbbi_command::{Output, Refusal, count_of, joined};
+use rbbi_command::{Output, Refusal, count_of};
 use rbbi_demo::Summary;
 use rbbi_props::PropTable;
 use rbbi_text::Steps;
@@ -27,28 +26,16 @@ $W ($W | $X)* {200}; $D+ ([.] $D+)* {100};
 fn summary_line(alloc: Global, summary: &Summary) -> Result<Vec<u8>, AllocError>
     ensures { IfOk result (λ line. line.items ≡ spec.summary_line summary.now) }
 {
-    let mut chars = Buffer::new();
-    let mut edits = Buffer::new();
-    let mut boundaries = Buffer::new();
-    let mut sum = Buffer::new();
-    let chars = chars.format(summary.chars).as_bytes();
-    let edits = edits.format(summary.edits).as_bytes();
-    let boundaries = boundaries.format(summary.boundaries).as_bytes();
-    let sum = sum.format(summary.sum).as_bytes();
-    joined(
-        alloc,
-        &[
-            b"chars ",
-            chars,
-            b" edits ",
-            edits,
-            b" boundaries ",
-            boundaries,
-            b" sum ",
-            sum,
-            b"\n",
-        ],
-    )
+    let Summary {
+        chars,
+        edits,
+        boundaries,
+        sum,
+    } = *summary;
+    let line = format!(in alloc;
+        "chars {chars} edits {edits} boundaries {boundaries} sum {sum}\n"
+    )?;
+    Ok(line.into_bytes())
 }
 
 /// The summary of the demonstration of the number that the word writes, by the built-in rules.

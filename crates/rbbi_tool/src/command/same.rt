@@ -59,7 +59,7 @@ fn difference_line(alloc: Global, word: &Word) -> Result<Vec<u8>, AllocError>
     Ok(line)
 }
 
-/// What is told of two tables: that they have the same marks after every text, or a text after
+/// What is reported of two tables: that they have the same marks after every text, or a text after
 /// which they have different ones.
 fn comparison_of(alloc: Global, these: &Table, those: &Table) -> Result<Output, AllocError>
     ensures { IfOk result (AreCompared these.now those.now) }
@@ -74,7 +74,7 @@ fn comparison_of(alloc: Global, these: &Table, those: &Table) -> Result<Output, 
     }
 }
 
-/// The same refusal, where a fault of the rule file is told of the second one.
+/// The same refusal, where a fault of the rule file is reported of the second one.
 fn told_of_second(refusal: Refusal) -> Refusal
     ensures { result ≡ spec.told_of_second refusal }
 {

@@ -75,37 +75,42 @@ loop-at-preserved g c =
       read = searched g here;
     }
 
-pub returns-in_err-put_if_reported-clause-err : goal.returns-in_err-put_if_reported-clause-err
-returns-in_err-put_if_reported-clause-err g c =
-    let told = err_from_is_err_and c.from_residual-in_err-put_if_reported.result c.from_residual-in_err-put_if_reported.ensures.1 in
-    rw told.1
-    (put_refused _ _ _ _ _ (listed g (goal.at.returns-in_err-put_if_reported-clause-err g c).After-put_if_reported).put _ c.in_err-put_if_reported.ensures.err)
+pub returns-in_err-put_if_reported : goal.returns-in_err-put_if_reported
+returns-in_err-put_if_reported g c =
+    let ended = err_from_is_err_and c.from_residual-in_err-put_if_reported.result c.from_residual-in_err-put_if_reported.ensures.1 in
+    let here = (goal.at.returns-in_err-put_if_reported g c).After-put_if_reported in
+    rw ended.1 (record {
+      ok = tt;
+      err = put_refused _ _ _ _ _ (listed g here).put _ c.in_err-put_if_reported.ensures.err;
+      faults = search rules;
+      failed = search rules;
+      steps = all_searched c.args.table.now (g.T.Chars.characters c.args.text.now) (reporting_cost c.args.filter.now) c.next-found.result.at
+          c.args.steps.now c.put_if_reported.new.steps (searched g here);
+    })
 
-pub returns-in_err-put_if_reported-clause-steps : goal.returns-in_err-put_if_reported-clause-steps
-returns-in_err-put_if_reported-clause-steps g c =
-    all_searched c.args.table.now (g.T.Chars.characters c.args.text.now) (reporting_cost c.args.filter.now) c.next-found.result.at c.args.steps.now
-    c.put_if_reported.new.steps (searched g (goal.at.returns-in_err-put_if_reported-clause-steps g c).After-put_if_reported)
+pub returns-in_err-put_all : goal.returns-in_err-put_all
+returns-in_err-put_all g c =
+    let ended = err_from_is_err_and c.from_residual-in_err-put_all.result c.from_residual-in_err-put_all.ensures.1 in
+    rw ended.1 (record {
+      ok = tt;
+      err = put_refused _ _ _ _ _ c.loop-at.invariant.listed.put _
+          (subst (λ w. TakesFront (g.K.Sink.taken c.loop-at.out) (g.K.Sink.taken c.put_all.new.out) w) c.deref.ensures.value c.in_err-put_all.ensures.err);
+      faults = search rules;
+      failed = search rules;
+      steps = all_searched c.args.table.now (g.T.Chars.characters c.args.text.now) (reporting_cost c.args.filter.now) c.loop-at.at c.args.steps.now
+          c.loop-at.steps c.loop-at.invariant.read;
+    })
 
-pub returns-in_err-put_all-clause-err : goal.returns-in_err-put_all-clause-err
-returns-in_err-put_all-clause-err g c =
-    let told = err_from_is_err_and c.from_residual-in_err-put_all.result c.from_residual-in_err-put_all.ensures.1 in
-    rw told.1 (put_refused _ _ _ _ _ c.loop-at.invariant.listed.put _
-    (subst (λ w. TakesFront (g.K.Sink.taken c.loop-at.out) (g.K.Sink.taken c.put_all.new.out) w) c.deref.ensures.value c.in_err-put_all.ensures.err))
-
-pub returns-in_err-put_all-clause-steps : goal.returns-in_err-put_all-clause-steps
-returns-in_err-put_all-clause-steps g c =
-    all_searched c.args.table.now (g.T.Chars.characters c.args.text.now) (reporting_cost c.args.filter.now) c.loop-at.at c.args.steps.now c.loop-at.steps
-    c.loop-at.invariant.read
-
-pub returns-clause-ok : goal.returns-clause-ok
-returns-clause-ok g c =
+pub returns : goal.returns
+returns g c =
     let filter = c.args.filter.now in
     let x = g.T.Chars.characters c.args.text.now in
-    all_listed (line_reported filter x) (reported_lines filter x) (reported_each filter x) c.args.table.now x _ _ _ _ _ c.loop-at.invariant.listed
-    (omega (arith, c.loop-at-test.false, c.len.ensures.exact))
-    (subst (λ w. Takes (g.K.Sink.taken c.loop-at.out) (g.K.Sink.taken c.put_all.new.out) w) c.deref.ensures.value c.in_ok-put_all.ensures.ok)
-
-pub returns-clause-steps : goal.returns-clause-steps
-returns-clause-steps g c =
-    all_searched c.args.table.now (g.T.Chars.characters c.args.text.now) (reporting_cost c.args.filter.now) c.loop-at.at c.args.steps.now c.loop-at.steps
-    c.loop-at.invariant.read
+    record {
+      ok = all_listed (line_reported filter x) (reported_lines filter x) (reported_each filter x) c.args.table.now x _ _ _ _ _ c.loop-at.invariant.listed
+          (omega (arith, c.loop-at-test.false, c.len.ensures.exact))
+          (subst (λ w. Takes (g.K.Sink.taken c.loop-at.out) (g.K.Sink.taken c.put_all.new.out) w) c.deref.ensures.value c.in_ok-put_all.ensures.ok);
+      err = tt;
+      faults = search rules;
+      failed = search rules;
+      steps = all_searched c.args.table.now x (reporting_cost filter) c.loop-at.at c.args.steps.now c.loop-at.steps c.loop-at.invariant.read;
+    }

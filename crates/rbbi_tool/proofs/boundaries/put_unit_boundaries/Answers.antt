@@ -90,38 +90,48 @@ loop-at-preserved g c =
       read = searched g (goal.at.loop-at-preserved g c).After-next-found;
     }
 
-pub returns-in_err-say_bound-2-clause-err : goal.returns-in_err-say_bound-2-clause-err
-returns-in_err-say_bound-2-clause-err g c =
-    let told = err_from_is_err_and c.from_residual-in_err-say_bound-2.result c.from_residual-in_err-say_bound-2.ensures.1 in
-    rw told.1 (put_stays _ _ _ _ _ c.loop-at.invariant.listed.put)
+pub returns-in_err-say_bound-2 : goal.returns-in_err-say_bound-2
+returns-in_err-say_bound-2 g c =
+    let ended = err_from_is_err_and c.from_residual-in_err-say_bound-2.result c.from_residual-in_err-say_bound-2.ensures.1 in
+    rw ended.1 (record {
+      ok = tt;
+      err = put_stays _ _ _ _ _ c.loop-at.invariant.listed.put;
+      faults = search rules;
+      failed = search rules;
+      steps = paid g (goal.at.returns-in_err-say_bound-2 g c).After-next-found;
+    })
 
-pub returns-in_err-put_when_full-clause-err : goal.returns-in_err-put_when_full-clause-err
-returns-in_err-put_when_full-clause-err g c =
-    let told = err_from_is_err_and c.from_residual-in_err-put_when_full.result c.from_residual-in_err-put_when_full.ensures.1 in
-    rw told.1
-    (put_refused _ _ _ _ _ (listed g (goal.at.returns-in_err-put_when_full-clause-err g c).After-status_list _ c.in_ok-say_bound-2.ensures).put _
-    c.in_err-put_when_full.ensures.err)
+pub returns-in_err-put_when_full : goal.returns-in_err-put_when_full
+returns-in_err-put_when_full g c =
+    let ended = err_from_is_err_and c.from_residual-in_err-put_when_full.result c.from_residual-in_err-put_when_full.ensures.1 in
+    rw ended.1 (record {
+      ok = tt;
+      err = put_refused _ _ _ _ _ (listed g (goal.at.returns-in_err-put_when_full g c).After-status_list _ c.in_ok-say_bound-2.ensures).put _
+          c.in_err-put_when_full.ensures.err;
+      faults = search rules;
+      failed = search rules;
+      steps = paid g (goal.at.returns-in_err-put_when_full g c).After-next-found;
+    })
 
-pub returns-in_err-put_when_full-clause-steps : goal.returns-in_err-put_when_full-clause-steps
-returns-in_err-put_when_full-clause-steps g c = paid g (goal.at.returns-in_err-put_when_full-clause-steps g c).After-next-found
+pub returns-in_err-put_all : goal.returns-in_err-put_all
+returns-in_err-put_all g c =
+    let ended = err_from_is_err_and c.from_residual-in_err-put_all.result c.from_residual-in_err-put_all.ensures.1 in
+    rw ended.1 (record {
+      ok = tt;
+      err = put_refused _ _ _ _ _ c.loop-at.invariant.listed.put _
+          (subst (λ w. TakesFront (g.K.Sink.taken c.loop-at.out) (g.K.Sink.taken c.put_all.new.out) w) c.deref.ensures.value c.in_err-put_all.ensures.err);
+      faults = search rules;
+      failed = search rules;
+      steps = searched_alone c.args.table.now c.args.text.now c.loop-at.at c.args.steps.now c.loop-at.steps c.loop-at.invariant.read;
+    })
 
-pub returns-in_err-say_bound-2-clause-steps : goal.returns-in_err-say_bound-2-clause-steps
-returns-in_err-say_bound-2-clause-steps g c = paid g (goal.at.returns-in_err-say_bound-2-clause-steps g c).After-next-found
-
-pub returns-in_err-put_all-clause-err : goal.returns-in_err-put_all-clause-err
-returns-in_err-put_all-clause-err g c =
-    let told = err_from_is_err_and c.from_residual-in_err-put_all.result c.from_residual-in_err-put_all.ensures.1 in
-    rw told.1 (put_refused _ _ _ _ _ c.loop-at.invariant.listed.put _
-    (subst (λ w. TakesFront (g.K.Sink.taken c.loop-at.out) (g.K.Sink.taken c.put_all.new.out) w) c.deref.ensures.value c.in_err-put_all.ensures.err))
-
-pub returns-clause-ok : goal.returns-clause-ok
-returns-clause-ok g c =
-    all_listed (line_in c.args.unit c.args.text.now) (lines_in c.args.unit c.args.text.now) (measured_each c.args.unit c.args.text.now)
-    c.args.table.now c.args.text.now _ _ _ _ _ c.loop-at.invariant.listed (omega (arith, c.loop-at-test.false, c.len.ensures.exact))
-    (subst (λ w. Takes (g.K.Sink.taken c.loop-at.out) (g.K.Sink.taken c.put_all.new.out) w) c.deref.ensures.value c.in_ok-put_all.ensures.ok)
-
-pub returns-clause-steps : goal.returns-clause-steps
-returns-clause-steps g c = searched_alone c.args.table.now c.args.text.now c.loop-at.at c.args.steps.now c.loop-at.steps c.loop-at.invariant.read
-
-pub returns-in_err-put_all-clause-steps : goal.returns-in_err-put_all-clause-steps
-returns-in_err-put_all-clause-steps g c = searched_alone c.args.table.now c.args.text.now c.loop-at.at c.args.steps.now c.loop-at.steps c.loop-at.invariant.read
+pub returns : goal.returns
+returns g c = record {
+  ok = all_listed (line_in c.args.unit c.args.text.now) (lines_in c.args.unit c.args.text.now) (measured_each c.args.unit c.args.text.now)
+      c.args.table.now c.args.text.now _ _ _ _ _ c.loop-at.invariant.listed (omega (arith, c.loop-at-test.false, c.len.ensures.exact))
+      (subst (λ w. Takes (g.K.Sink.taken c.loop-at.out) (g.K.Sink.taken c.put_all.new.out) w) c.deref.ensures.value c.in_ok-put_all.ensures.ok);
+  err = tt;
+  faults = search rules;
+  failed = search rules;
+  steps = searched_alone c.args.table.now c.args.text.now c.loop-at.at c.args.steps.now c.loop-at.steps c.loop-at.invariant.read;
+}

@@ -36,45 +36,53 @@ loop-i-preserved g c = record {
   faults = search rules;
 }
 
-pub returns-in_err-perform_by-clause-err : goal.returns-in_err-perform_by-clause-err
-returns-in_err-perform_by-clause-err g c =
+pub returns-in_err-perform_by : goal.returns-in_err-perform_by
+returns-in_err-perform_by g c =
     let ended = err_from_is_err_and c.from_residual.result c.from_residual.ensures.1 in
-    rw ended.1 (put_stays _ _ _ _ _ c.loop-i.invariant.replied.put)
+    rw ended.1 (record {
+      ok = tt;
+      err = put_stays _ _ _ _ _ c.loop-i.invariant.replied.put;
+      faults = search rules;
+      failed = search rules;
+      steps = one_paid g.S.Walk.view _ _ c.laws.ensures.recall _ _ _ _ _ _ (meaning c.get.result.now) _
+          (left g (goal.at.returns-in_err-perform_by g c).After-perform_by) c.perform_by.new.session _ _ c.perform_by.ensures.cost c.perform_by.ensures.reads;
+    })
 
-pub returns-in_err-put_when_full-clause-err : goal.returns-in_err-put_when_full-clause-err
-returns-in_err-put_when_full-clause-err g c =
+pub returns-in_err-put_when_full : goal.returns-in_err-put_when_full
+returns-in_err-put_when_full g c =
     let ended = err_from_is_err_and c.from_residual-in_err-put_when_full.result c.from_residual-in_err-put_when_full.ensures.1 in
-    let replied = replied_more g.S.Walk.view _ _ c.laws.ensures.recall _ _ _ _ _ _ (meaning c.get.result.now) _ (left g (goal.at.returns-in_err-put_when_full-clause-err g c).After-perform_by)
-    c.perform_by.new.session c.perform_by.new.steps _ _ c.in_ok-perform_by.ensures.replies c.perform_by.ensures.cost c.perform_by.ensures.reads in
-    rw ended.1 (put_refused _ _ _ _ _ replied.put _ c.in_err-put_when_full.ensures.err)
+    let replied = replied_more g.S.Walk.view _ _ c.laws.ensures.recall _ _ _ _ _ _ (meaning c.get.result.now) _
+    (left g (goal.at.returns-in_err-put_when_full g c).After-perform_by) c.perform_by.new.session c.perform_by.new.steps _ _
+    c.in_ok-perform_by.ensures.replies c.perform_by.ensures.cost c.perform_by.ensures.reads in
+    rw ended.1 (record {
+      ok = tt;
+      err = put_refused _ _ _ _ _ replied.put _ c.in_err-put_when_full.ensures.err;
+      faults = search rules;
+      failed = search rules;
+      steps = all_paid g.S.Walk.view _ _ _ _ _ _ _ _ _ replied;
+    })
 
-pub returns-in_err-perform_by-clause-steps : goal.returns-in_err-perform_by-clause-steps
-returns-in_err-perform_by-clause-steps g c =
-    one_paid g.S.Walk.view _ _ c.laws.ensures.recall _ _ _ _ _ _ (meaning c.get.result.now) _ (left g (goal.at.returns-in_err-perform_by-clause-steps g c).After-perform_by) c.perform_by.new.session _ _
-    c.perform_by.ensures.cost c.perform_by.ensures.reads
-
-pub returns-in_err-put_when_full-clause-steps : goal.returns-in_err-put_when_full-clause-steps
-returns-in_err-put_when_full-clause-steps g c =
-    one_paid g.S.Walk.view _ _ c.laws.ensures.recall _ _ _ _ _ _ (meaning c.get.result.now) _ (left g (goal.at.returns-in_err-put_when_full-clause-steps g c).After-perform_by) c.perform_by.new.session _ _
-    c.perform_by.ensures.cost c.perform_by.ensures.reads
-
-pub returns-in_err-put_all-clause-err : goal.returns-in_err-put_all-clause-err
-returns-in_err-put_all-clause-err g c =
+pub returns-in_err-put_all : goal.returns-in_err-put_all
+returns-in_err-put_all g c =
     let ended = err_from_is_err_and c.from_residual-in_err-put_all.result c.from_residual-in_err-put_all.ensures.1 in
-    rw ended.1
-    (put_refused _ _ _ _ _ c.loop-i.invariant.replied.put _
-    (subst (λ w. TakesFront (g.K.Sink.taken c.loop-i.out) (g.K.Sink.taken c.put_all.new.out) w) c.deref.ensures.value c.in_err-put_all.ensures.err))
+    rw ended.1 (record {
+      ok = tt;
+      err = put_refused _ _ _ _ _ c.loop-i.invariant.replied.put _
+          (subst (λ w. TakesFront (g.K.Sink.taken c.loop-i.out) (g.K.Sink.taken c.put_all.new.out) w) c.deref.ensures.value c.in_err-put_all.ensures.err);
+      faults = search rules;
+      failed = search rules;
+      steps = all_paid g.S.Walk.view _ _ _ _ _ _ _ _ _ c.loop-i.invariant.replied;
+    })
 
-pub returns-in_err-put_all-clause-steps : goal.returns-in_err-put_all-clause-steps
-returns-in_err-put_all-clause-steps g c = all_paid g.S.Walk.view _ _ _ _ _ _ _ _ _ c.loop-i.invariant.replied
-
-pub returns-clause-steps : goal.returns-clause-steps
-returns-clause-steps g c = all_paid g.S.Walk.view _ _ _ _ _ _ _ _ _ c.loop-i.invariant.replied
-
-pub returns-clause-ok : goal.returns-clause-ok
-returns-clause-ok g c =
-    put_end _ _ _ _ _ c.loop-i.invariant.replied.put
-    (ap (λ cs. all_reply_lines (replies_of g.S.Walk.view c.loop-i.session (map meaning cs)))
-    (drop_all c.loop-i.i c.args.commands.now (omega (arith, c.loop-i-test.false, c.len-i-end.ensures))))
-    _
-    (subst (λ w. Takes (g.K.Sink.taken c.loop-i.out) (g.K.Sink.taken c.put_all.new.out) w) c.deref.ensures.value c.in_ok-put_all.ensures.ok)
+pub returns : goal.returns
+returns g c = record {
+  ok = put_end _ _ _ _ _ c.loop-i.invariant.replied.put
+      (ap (λ cs. all_reply_lines (replies_of g.S.Walk.view c.loop-i.session (map meaning cs)))
+      (drop_all c.loop-i.i c.args.commands.now (omega (arith, c.loop-i-test.false, c.len-i-end.ensures))))
+      _
+      (subst (λ w. Takes (g.K.Sink.taken c.loop-i.out) (g.K.Sink.taken c.put_all.new.out) w) c.deref.ensures.value c.in_ok-put_all.ensures.ok);
+  err = tt;
+  faults = search rules;
+  failed = search rules;
+  steps = all_paid g.S.Walk.view _ _ _ _ _ _ _ _ _ c.loop-i.invariant.replied;
+}

@@ -24,4 +24,5 @@ returns-clause-reads g c =
       cost = c.before-2.ensures.cost;
       again = λ shown. (c.before-2.ensures.shown shown.0 shown.1).0;
       runs = (c.in-Some.entry, c.in-Some.ensures.answer.1, c.in-Some.ensures.kept);
+      are_true = c.before-2.ensures.are_true;
     })

@@ -24,4 +24,5 @@ returns-clause-reads g c =
       cost = c.after.ensures.cost c.in-Some.ensures.answer.0;
       again = λ shown. (c.after.ensures.shown shown.0 shown.1).0;
       runs = (c.in-Some.entry, c.in-Some.ensures.answer.1, c.in-Some.ensures.kept);
+      are_true = c.after.ensures.are_true;
     })

@@ -1,7 +1,7 @@
 use Rattle.std.proofs.Common.{◌≡◌, ◌+◌, false, length, ap, sym, ◌∙◌, subst, arith}
 use Rattle.rbbi_text.specs.Indexes.{IsIndex}
 use Rattle.rbbi_session.specs.inner.UnitPlaces.{IsPlaceFrom}
-use Rattle.rbbi_session.proofs.UnitAnswering.{place_past, place_whole, place_inside}
+use Rattle.rbbi_session.proofs.UnitCursors.{place_past, place_whole, place_inside}
 use Rattle.rbbi_session.proofs.unit_session.UnitSession.first_place_from.Goals as goal
 
 pub returns-then-o-units : goal.returns-then-o-units

@@ -4,7 +4,7 @@ use Rattle.rbbi_model.specs.UnitAnswers.{place_before}
 use Rattle.rbbi_text.specs.Indexes.{IsIndex}
 use Rattle.rbbi_session.specs.UnitSessions.{offset_in}
 use Rattle.rbbi_session.specs.inner.UnitPlaces.{IsPlaceUpTo}
-use Rattle.rbbi_session.proofs.UnitAnswering.{up_to_past, up_to_index, before_is}
+use Rattle.rbbi_session.proofs.UnitCursors.{up_to_past, up_to_index, before_is}
 use Rattle.rbbi_session.proofs.unit_session.UnitSession.last_place_up_to.Goals as goal
 
 pub returns-then-o-units-clause-past : goal.returns-then-o-units-clause-past

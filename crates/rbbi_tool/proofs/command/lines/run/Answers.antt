@@ -13,8 +13,8 @@ use Rattle.rbbi_tool.specs.Steps.{replies_cost}
 use Rattle.rbbi_tool.specs.inner.Steps.{given_bytes}
 use Rattle.rbbi_tool.proofs.Bases.{gives_them}
 use Rattle.rbbi_tool.proofs.Reported.{replies_given}
-use Rattle.rbbi_tool.proofs.Counted.{rises_further, rises_by, rises_twice, reads_for}
-use Rattle.rbbi_tool.proofs.command.run.run.Goals as goal
+use Rattle.rbbi_tool.proofs.Counted.{rises_further, rises_by, ends_early, reads_for}
+use Rattle.rbbi_tool.proofs.command.lines.run.Goals as goal
 
 pub returns-in_err-text-clause-exact : goal.returns-in_err-text-clause-exact
 returns-in_err-text-clause-exact g c =
@@ -60,23 +60,17 @@ returns-clause-exact g c =
 pub returns-in_err-filtered-clause-steps : goal.returns-in_err-filtered-clause-steps
 returns-in_err-filtered-clause-steps g c =
     let ended = err_from_is_err_and c.from_residual.result c.from_residual.ensures.1 in
-    rw ended.1
-    (λ end none. inl (rises_further _ (given_bytes (inputs_in c.args.inputs.now)) _ _ (rises_twice _ 0 _ _ end c.filtered_from.ensures.steps none)
-    (omega arith)))
+    rw ended.1 (λ end none. inl (ends_early c.filtered_from.ensures.steps (omega arith) none))
 
 pub returns-in_err-text-clause-steps : goal.returns-in_err-text-clause-steps
 returns-in_err-text-clause-steps g c =
     let ended = err_from_is_err_and c.from_residual-in_err-text.result c.from_residual-in_err-text.ensures.1 in
-    rw ended.1
-    (λ end none. inl (rises_further _ (given_bytes (inputs_in c.args.inputs.now)) _ _ (rises_twice _ 0 _ _ end c.filtered_from.ensures.steps none)
-    (omega arith)))
+    rw ended.1 (λ end none. inl (ends_early c.filtered_from.ensures.steps (omega arith) none))
 
 pub returns-in_err-commands-clause-steps : goal.returns-in_err-commands-clause-steps
 returns-in_err-commands-clause-steps g c =
     let ended = err_from_is_err_and c.from_residual-in_err-commands.result c.from_residual-in_err-commands.ensures.1 in
-    rw ended.1
-    (λ end none. inl (rises_further _ (given_bytes (inputs_in c.args.inputs.now)) _ _ (rises_twice _ 0 _ _ end (rises_by _ _ _ c.filtered_from.new.steps _ c.filtered_from.ensures.steps c.commands_of.ensures.steps) none)
-    (omega arith)))
+    rw ended.1 (λ end none. inl (ends_early (rises_by _ _ _ c.filtered_from.new.steps _ c.filtered_from.ensures.steps c.commands_of.ensures.steps) (omega arith) none))
 
 pub returns-clause-steps : goal.returns-clause-steps
 returns-clause-steps g c =

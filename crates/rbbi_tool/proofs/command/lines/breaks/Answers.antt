@@ -11,8 +11,8 @@ use Rattle.rbbi_tool.specs.Steps.{list_cost}
 use Rattle.rbbi_tool.specs.inner.Steps.{given_bytes}
 use Rattle.rbbi_tool.proofs.Bases.{gives_them}
 use Rattle.rbbi_tool.proofs.Reported.{boundaries_given}
-use Rattle.rbbi_tool.proofs.Counted.{rises_further, rises_twice, reads_for}
-use Rattle.rbbi_tool.proofs.command.breaks.breaks.Goals as goal
+use Rattle.rbbi_tool.proofs.Counted.{rises_further, ends_early, reads_for}
+use Rattle.rbbi_tool.proofs.command.lines.breaks.Goals as goal
 
 pub returns-in_err-text-clause-exact : goal.returns-in_err-text-clause-exact
 returns-in_err-text-clause-exact g c =
@@ -46,16 +46,12 @@ returns-clause-exact g c =
 pub returns-in_err-filtered-clause-steps : goal.returns-in_err-filtered-clause-steps
 returns-in_err-filtered-clause-steps g c =
     let ended = err_from_is_err_and c.from_residual.result c.from_residual.ensures.1 in
-    rw ended.1
-    (λ end none. inl (rises_further _ (given_bytes (inputs_in c.args.inputs.now)) _ _ (rises_twice _ 0 _ _ end c.filtered_from.ensures.steps none)
-    (omega arith)))
+    rw ended.1 (λ end none. inl (ends_early c.filtered_from.ensures.steps (omega arith) none))
 
 pub returns-in_err-text-clause-steps : goal.returns-in_err-text-clause-steps
 returns-in_err-text-clause-steps g c =
     let ended = err_from_is_err_and c.from_residual-in_err-text.result c.from_residual-in_err-text.ensures.1 in
-    rw ended.1
-    (λ end none. inl (rises_further _ (given_bytes (inputs_in c.args.inputs.now)) _ _ (rises_twice _ 0 _ _ end c.filtered_from.ensures.steps none)
-    (omega arith)))
+    rw ended.1 (λ end none. inl (ends_early c.filtered_from.ensures.steps (omega arith) none))
 
 pub returns-clause-steps : goal.returns-clause-steps
 returns-clause-steps g c =

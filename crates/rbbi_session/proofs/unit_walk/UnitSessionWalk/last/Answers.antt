@@ -1,0 +1,13 @@
+use Rattle.std.proofs.Common.{refl}
+use Rattle.rbbi_session.specs.UnitSessions.{UnitSession}
+use Rattle.rbbi_session.proofs.UnitAnswering.{at_view, here_within, unit_last}
+use Rattle.rbbi_session.proofs.unit_walk.UnitSessionWalk.last.Goals as goal
+
+pub returns : goal.returns
+returns g c =
+    let before : UnitSession = record { unit = c.self.inside.unit; asked = c.self.inside.asked } in
+    let after : UnitSession = record { unit = c.self.inside.unit; asked = c.last.new.self } in
+    at_view c.self.view_is
+    (unit_last before after _ _ refl
+    (here_within c.self.inside.asked c.current-here.result c.current-here.ensures.answer c.current-here.ensures.boundary)
+    c.last.result c.current.result c.current.ensures.at c.last.ensures.answers c.last.ensures.reads)

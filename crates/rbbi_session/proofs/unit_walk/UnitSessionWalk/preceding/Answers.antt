@@ -1,0 +1,17 @@
+use Rattle.std.proofs.Common.{refl, sym, subst}
+use Rattle.rbbi_session.specs.UnitSessions.{UnitSession}
+use Rattle.rbbi_session.specs.inner.UnitPlaces.{IsPlaceFrom}
+use Rattle.rbbi_session.proofs.UnitAnswering.{at_view, here_within, unit_preceding}
+use Rattle.rbbi_session.proofs.unit_walk.UnitSessionWalk.preceding.Goals as goal
+
+pub returns : goal.returns
+returns g c =
+    let before : UnitSession = record { unit = c.self.inside.unit; asked = c.self.inside.asked } in
+    let after : UnitSession = record { unit = c.self.inside.unit; asked = c.preceding-place.new.self } in
+    let place = subst (λ s. IsPlaceFrom s.unit s.asked.state.text c.args.o c.first_place_from-from.result) (sym c.self.view_is)
+    c.first_place_from-from.ensures in
+    at_view c.self.view_is
+    (unit_preceding before after _ _ refl
+    (here_within c.self.inside.asked c.current-here.result c.current-here.ensures.answer c.current-here.ensures.boundary)
+    c.args.o c.first_place_from-from.result c.preceding-place.result c.place_found.result place c.preceding-place.ensures.answers
+    c.preceding-place.ensures.reads c.place_found.ensures)
