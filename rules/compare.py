@@ -14,7 +14,8 @@ The engine is a command with words, `bin/rbbi breaks` where none is given. It ge
 `--prop NAME=FILE` that the rule file's head names, the rule file and a text file, and writes a line
 `PLACE STATUS,..` for each boundary. Many texts stand in one file, each with a line feed behind it:
 in all four annexes nothing in front of a line feed counts behind it. With --kit the program that
-crates/rbbi_unicode makes breaks the texts too, by the kit's `unicode_segmentation`, but for lines.
+crates/rbbi_unicode makes breaks the texts too: by the kit's `unicode_segmentation`, and for lines by
+the definition of crates/rbbi_annexes, with statuses and over the tests too.
 
 The data are those of unicode/. With --15.0 the rules and models are those of Unicode 15.0, and FOLDER
 holds its data. The status is 1 where anything differs.
@@ -34,21 +35,25 @@ import models  # noqa: E402
 LINE_FEED = 10
 
 
+def read_tests(name, folder):
+    """Unicode's tests: the number of each one's line, its text, and the places of its boundaries."""
+    with open(files.tests_of(name, folder), encoding='utf-8') as lines:
+        for number, line in enumerate(lines, 1):
+            words = line.split('#')[0].split()
+            if words:
+                text = [int(word, 16) for word in words[1::2]]
+                yield number, text, [0] + [i for i, mark in enumerate(words[2::2], 1) if mark == '÷']
+
+
 def check_tests(model, arguments):
     """Runs a model over Unicode's test file, and returns how many tests come out as they must not."""
     changed = set() if arguments.is_15 else files.changed_tests(model.name)
     tests = wrong = 0
-    with open(files.tests_of(model.name, arguments.tests), encoding='utf-8') as lines:
-        for number, line in enumerate(lines, 1):
-            words = line.split('#')[0].split()
-            if not words:
-                continue
-            text = [int(word, 16) for word in words[1::2]]
-            marks = [0] + [i for i, mark in enumerate(words[2::2], 1) if mark == '÷']
-            tests += 1
-            if (model.boundaries(text) == marks) == (number in changed):
-                wrong += 1
-                print(f'{model.name}: line {number} of the tests comes out as it must not')
+    for number, text, marks in read_tests(model.name, arguments.tests):
+        tests += 1
+        if (model.boundaries(text) == marks) == (number in changed):
+            wrong += 1
+            print(f'{model.name}: line {number} of the tests comes out as it must not')
     print(f'{model.name}: model over the tests: {tests}, of which changed {len(changed)} wrong {wrong}')
     return wrong
 
@@ -107,29 +112,54 @@ def tell(name, texts, found, wanted):
     return differing
 
 
-def check_kit(name, program, texts, folder, wanted):
-    """Compares the kit's boundaries with the model's, in bytes, and returns how many texts differ."""
-    words = [program, name, os.path.join(folder, 'texts')]
-    run = subprocess.run(words, stdout=subprocess.PIPE, check=True)
-    found = {int(line) for line in run.stdout.split()}
+def run_kit(name, program, texts, folder):
+    """The starts of the segments of some texts in one file by the kit, each with its status if there is one."""
+    path = os.path.join(folder, 'texts')
+    with open(path, 'wb') as file:
+        file.write(''.join(chr(code) for text in texts for code in text).encode('utf-8'))
+    run = subprocess.run([program, name, path], stdout=subprocess.PIPE, check=True)
+    lines = [[int(word) for word in line.split()] for line in run.stdout.splitlines()]
+    found = {line[0]: line[1:] for line in lines}
     sizes = [len(chr(code).encode('utf-8')) for text in texts for code in text]
-    places = list(itertools.accumulate(sizes, initial=0))
-    ends, differing = {place for place, _ in wanted}, 0
-    start = 0
+    bytes_at = itertools.accumulate(sizes, initial=0)
+    return {0: [], **{place: found[byte] for place, byte in enumerate(bytes_at) if byte in found}}
+
+
+def check_kit(name, program, texts, folder, wanted):
+    """Compares the kit's boundaries with the model's, and returns how many texts differ."""
+    found, ends = run_kit(name, program, texts, folder), dict(wanted)
+    start = differing = 0
     for text in texts:
         at = range(start, start + len(text))
-        if any((place in ends) != (places[place] in found) for place in at):
+        if any((place in ends) != (place in found) or found.get(place) not in ([], ends.get(place))
+               for place in at if place in ends or place in found):
             differing += 1
             print(f'{name}: the kit differs: ' + ' '.join(f'{code:04X}' for code in text))
         start += len(text)
     return differing
 
 
+def check_kit_tests(name, program, arguments):
+    """Runs the definition of line breaks over Unicode's tests, and returns how many come out as they must not."""
+    rows = list(read_tests(name, arguments.tests))
+    changed, start, wrong = files.changed_tests(name), 0, 0
+    with tempfile.TemporaryDirectory() as folder:
+        found = run_kit(name, program, [text + [LINE_FEED] for _, text, _ in rows], folder)
+    for number, text, marks in rows:
+        inside = [place for place in range(1, len(text)) if start + place in found]
+        if (inside == marks[1:-1]) == (number in changed):
+            wrong += 1
+            print(f'{name}: line {number} of the tests comes out as it must not by the definition')
+        start += len(text) + 1
+    print(f'{name}: definition over the tests: {len(rows)}, of which changed {len(changed)} wrong {wrong}')
+    return wrong
+
+
 def check_texts(model, command, arguments):
     """Compares an engine with a model over random texts, and returns how many texts differ."""
     rules = files.rules_of(model.name, arguments.is_15)
     command = command + files.options(rules, arguments.data) + [rules]
-    has_kit = arguments.kit and model.name != 'line' and not arguments.is_15
+    has_kit = arguments.kit and not arguments.is_15
     differing = by_kit = 0
     with tempfile.TemporaryDirectory() as folder:
         for few in (False, True):
@@ -170,6 +200,8 @@ def main():
         if arguments.only in ('', make.__name__):
             model = make(arguments.data, arguments.is_15)
             differing += check_tests(model, arguments)
+            if arguments.kit and model.name == 'line' and not arguments.is_15:
+                differing += check_kit_tests(model.name, arguments.kit, arguments)
             if arguments.texts:
                 differing += check_texts(model, command, arguments)
     sys.exit(1 if differing else 0)

@@ -61,7 +61,7 @@ by_step false breaks true last here further ok = refl
 by_step false true false last here further ok = absurd (false≢true ok)
 by_step false false false last here further ok = refl
 
--- what stands behind the first character that stands there
+-- what stands after the first character that stands there
 beyond : (x : List ℕ) (at c : ℕ) (behind : List ℕ) → drop at x ≡ c ∷ behind → (at < length x) × (drop (at + 1) x ≡ behind)
 beyond x at c behind rest =
     let short : at < length x = omega (arith, length-drop at x, ap length rest) in
@@ -83,7 +83,7 @@ module _ {S : Type 0} (table : Table) (monitor : Monitor S) (kinds : ℕ) (Used 
   coming_within (c ∷ behind) are =
       agree.ahead (category_of table.ranges c) (coming monitor (category_of table.ranges) behind) (used c are.0) (coming_within behind are.1)
 
-  -- a search reaches the row, with these characters behind its place, and those of the segment since its start
+  -- a search reaches the row, with these characters after its place, and those of the segment since its start
   Reaches : ℕ → List ℕ → List ℕ → List ℕ → Bool → Type 0
   Reaches row before behind segment settled =
       In row (seen monitor (category_of table.ranges) before) (coming monitor (category_of table.ranges) behind)
@@ -149,7 +149,7 @@ module _ {S : Type 0} (table : Table) (monitor : Monitor S) (kinds : ℕ) (Used 
         ∙ scan_breaks behind (c ∷ before) (c ∷ []) (step table 1 (category_of table.ranges c)) (s + 1) (single table s) false behind_are.1
         (behind_are.0, before_are) (behind_are.0, tt) begin.1
 
-    -- the boundaries from a place on are this one and those behind it
+    -- the boundaries from a place on are this one and those after it
     IsFrom : List Boundary → Boundary → Type 0
     IsFrom boundaries next =
         (before behind : List ℕ) × IsText behind × IsText before × (drop next.at x ≡ behind) × (rule before behind ≡ true) ×

@@ -168,7 +168,7 @@ module _ {S : Type 0} (same : S → S → Bool) where
     abbrev pub cells_of : ℕ → List ℕ
     cells_of row = drop (row * table.categories) table.cells
 
-    -- the mark once the character is read, with p for what comes behind it
+    -- the mark once the character is read, with p for what comes after it
     unfoldable pub marked : Bool → S → ℕ → ℕ → Option Bool → Option Bool
     marked accepts state k p None = None
     marked accepts state k p (Some settled) = Some (cond accepts (monitor.breaks state k p) settled)

@@ -62,7 +62,7 @@ same_class-true a b is =
     }
 
 -- What the rules read of the characters before a place: the value of the last one, and whether they end in Linker Extend*, in
--- Extended_Pictographic Extend*, in the same with ZWJ behind it, and in half a flag.
+-- Extended_Pictographic Extend*, in the same with ZWJ after it, and in half a flag.
 pub record Before : Type 0 where
   pub last : Option GraphemeClusterBreak
   pub linker : Bool

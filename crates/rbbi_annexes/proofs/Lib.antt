@@ -13,3 +13,4 @@ pub mod Sentences
 pub mod Valid
 pub mod Computing
 pub mod Pieces
+pub mod LineTexts

@@ -1,4 +1,4 @@
--- What a rule needs to know of a text: a state of what stands before a place, and a number for what stands behind it. And what the status of a
+-- What a rule needs to know of a text: a state of what stands before a place, and a number for what stands after it. And what the status of a
 -- segment needs to know of the segment: a number that is its label.
 use Rattle.std.specs.Prelude.{◌≡◌, ℕ, Bool, List, [], ◌∷◌}
 use Rattle.unicode_segmentation.specs.Segments.{Rule}
@@ -6,8 +6,8 @@ use Rattle.rbbi_model.specs.Words.{IsCharacter, IsText}
 use Rattle.rbbi_annexes.proofs.Ends.{BreaksAtEnds}
 
 -- The state before the first character, and the one after a character of a category; the number of nothing, and the one of a
--- character of a category with what stands behind it. The rule breaks, or not, by the state before a place, the category of
--- the character behind it, and the number of what stands behind that. A segment of no characters has label 0; then come the label after
+-- character of a category with what stands after it. The rule breaks, or not, by the state before a place, the category of
+-- the character after it, and the number of what stands after that. A segment of no characters has label 0; then come the label after
 -- a character of a category, and the status by the label.
 pub record Monitor (S : Type 0) : Type 0 where
   pub start : S
@@ -33,7 +33,7 @@ abbrev pub labelled : {S : Type 0} → Monitor S → (ℕ → ℕ) → List ℕ 
 labelled monitor category [] = 0
 labelled monitor category (c ∷ segment) = monitor.label (labelled monitor category segment) (category c)
 
--- the rule breaks at both ends of each text, and between two characters where the monitor says so; and the monitor tells the status of a
+-- the rule breaks at both ends of each text, and between two characters where the monitor says so; and the monitor gives the status of a
 -- segment
 pub record Tells {S : Type 0} (monitor : Monitor S) (category : ℕ → ℕ) (rule : Rule) (status : List ℕ → ℕ) : Type 0 where
   pub ends : BreaksAtEnds rule

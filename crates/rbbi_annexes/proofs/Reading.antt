@@ -26,7 +26,7 @@ two_is n small = omega (arith, small)
 four_is : (n : ℕ) → n < 4294967296 → four (n % 256) (n / 256 % 256) (n / 256 / 256 % 256) (n / 256 / 256 / 256 % 256) ≡ n
 four_is n small = omega (arith, small)
 
--- ---- each part, and what stands behind it
+-- ---- each part, and what stands after it
 
 unfoldable pub ranges_in : ℕ → List ℕ → List CategoryRange
 ranges_in zero bytes = []
@@ -126,7 +126,7 @@ single_bytes : (cells : List ℕ) → AllByRecursion (λ cell. cell < 256) cells
 single_bytes [] small = refl
 single_bytes (cell ∷ cells) small = ap₂ (λ c cs. c ∷ cs) (mod-eq_of_lt small.0) (single_bytes cells small.1)
 
--- the first row is read, and then those behind it
+-- the first row is read, and then those after it
 module _ (w : ℕ) where
   rows_are : (rows : List RowHead) (cells rest : List ℕ) → length cells ≡ length rows * w → AllByRecursion FitsHead rows →
       AllByRecursion (λ cell. cell < 256) cells →
@@ -156,7 +156,7 @@ module _ (w : ℕ) where
 
 -- ---- the whole
 
--- by the counts, and the bytes behind these
+-- by the counts, and the bytes after these
 unfoldable pub table_from : ℕ → ℕ → ℕ → ℕ → ℕ → List ℕ → Table
 table_from categories ranges lists rows slashes bytes =
     let behind : List ℕ = ranges_behind ranges bytes in

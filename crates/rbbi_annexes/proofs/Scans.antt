@@ -1,4 +1,4 @@
--- A search in a table without look-ahead rules, as one pass over the characters behind its start.
+-- A search in a table without look-ahead rules, as one pass over the characters after its start.
 use Rattle.std.proofs.Common.{◌≡◌, ℕ, zero, suc, ◌+◌, ◌-◌, ◌<◌, ◌≤◌, Bool, true, false, cond, ◌&&◌, ltb, eqb, List, [], ◌∷◌, Option, Some, None, length}
 use Rattle.std.proofs.Common.{drop, take, get_or, map, sym, refl, ap, ap₂, ◌∙◌, ⊎_elim, arith, add-one, le_refl}
 use Rattle.std.proofs.lemmas.Bool.{cases_Bool, cond-true, cond-false, and_left, lt-ltb, le-ltb, eq-eqb, eqb-true, or_left, or_from}
@@ -18,7 +18,7 @@ abbrev pub ended : Table → ℕ → Boundary → ℕ → Boundary
 ended table row last q = cond (eqb (accept_of table row) 1) (ending table row q) last
 
 -- The boundary at the last place at which a rule ends. The search reached q at the row, the last such boundary before was `last`, and
--- these characters stand behind q.
+-- these characters stand after q.
 abbrev pub scan : Table → ℕ → Boundary → ℕ → List ℕ → Boundary
 scan table row last q [] = ended table row last q
 scan table row last q (c ∷ behind) =
@@ -29,7 +29,7 @@ scan table row last q (c ∷ behind) =
 abbrev pub boundary_of : Table → Found → Boundary
 boundary_of table found = record { at = found.at; statuses = statuses_of table found.list }
 
--- the boundary behind one character, where no rule ends
+-- the boundary after one character, where no rule ends
 abbrev pub single : Table → ℕ → Boundary
 single table s = boundary_of table (record { at = s + 1; list = 0 })
 
@@ -110,7 +110,7 @@ module _ (table : Table) (plain : (row : ℕ) → completes table row ≡ false)
       ∙ ap at (sym further))
       (cases_Bool (eqb next 0))
 
-  -- the next boundary is where the pass ends that begins behind one character
+  -- the next boundary is where the pass ends that begins after one character
   pub next_is : (c : ℕ) (behind : List ℕ) → drop s x ≡ c ∷ behind → s < length x → eqb (step table 1 (category_of table.ranges c)) 0 ≡ false →
       next_boundary table x s ≡ scan table (step table 1 (category_of table.ranges c)) (single table s) (s + 1) behind
   unfolding row stop test longest

@@ -124,7 +124,7 @@ left_after m value =
     } in
     cond (is_ignored value) m further
 
--- the right side of SB8, for a value and what its number says of those behind it
+-- the right side of SB8, for a value and what its number says of those after it
 abbrev pub lower_by : SentenceBreak → Bool → Bool
 lower_by value ahead = is_lower value || (not (is_letter value || is_para_sep value || is_sa_term value) && ahead)
 
@@ -216,7 +216,8 @@ tail_bits false false false v = refl
 
 tail_value : (v : SentenceBreak) (vs : List SentenceBreak) → cond (is_ignored (plain_value v)) (tail_of vs)
     (tail_number (cond (is_close (plain_value v)) (is_sa_term (before_close vs)) (is_sa_term (plain_value v)))
-    (cond (is_sp (plain_value v)) (is_sa_term (before_close_sp vs)) (cond (is_close (plain_value v)) (is_sa_term (before_close vs)) (is_sa_term (plain_value v))))
+    (cond (is_sp (plain_value v)) (is_sa_term (before_close_sp vs)) (cond (is_close (plain_value v)) (is_sa_term (before_close vs))
+    (is_sa_term (plain_value v))))
     (cond (is_para_sep (plain_value v)) (is_sa_term (before_close_sp (skip is_para_sep vs)))
     (cond (is_sp (plain_value v)) (is_sa_term (before_close_sp vs)) (cond (is_close (plain_value v)) (is_sa_term (before_close vs))
     (is_sa_term (plain_value v))))))

@@ -556,5 +556,6 @@ module _ (table : Table) where
 
 -- `unfolding valid_tests` lets `refl` compute whether a table is valid
 unfoldable pub valid_tests : Unit {0}
-unfolding values each member is_only all_of starts_at_zero are_apart rises is_before are_in_order begins_with_zero gather distinct flood is_plain leads_to_zero unfronted goes_on_within row_stays stays_unfronted fronts_pass columns all_columns is_open rows_after alike pairs_pass is_valid
+unfolding values each member is_only all_of starts_at_zero are_apart rises is_before are_in_order begins_with_zero gather distinct flood is_plain
+    leads_to_zero unfronted goes_on_within row_stays stays_unfronted fronts_pass columns all_columns is_open rows_after alike pairs_pass is_valid
 valid_tests = tt

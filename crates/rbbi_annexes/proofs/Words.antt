@@ -176,7 +176,7 @@ left_after m value =
     } in
     cond (is_ignored value) m further
 
--- the values that the rules name of what comes behind a character, by number
+-- the values that the rules name of what comes after a character, by number
 abbrev pub kind_of : WordBreak → ℕ
 kind_of ALetter = 1
 kind_of HebrewLetter = 2

@@ -9,7 +9,7 @@ use Rattle.rbbi_model.specs.TableFile.{IsSpelling}
 use Rattle.rbbi_model.specs.Searches.{table_boundaries}
 
 -- The places from `at` on at which the rule breaks, in order. The characters before `at` are given nearest first, and then
--- those behind it.
+-- those after it.
 abbrev pub breaks_from : Rule → List ℕ → List ℕ → ℕ → List ℕ
 breaks_from rule before [] at = if rule before [] then at ∷ [] else []
 breaks_from rule before (c ∷ behind) at =

@@ -1,2 +1,6 @@
 pub mod Breaks
 pub mod Statuses
+pub mod LineNames
+pub mod LineBreaks
+pub mod LineTexts
+pub mod inner

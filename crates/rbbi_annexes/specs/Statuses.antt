@@ -46,7 +46,7 @@ abbrev pub word_status : List ℕ → ℕ
 word_status [] = 0
 word_status (c ∷ before) = unwrap_or (word_kind (word_break c) (script c)) (word_status before)
 
--- 0 where the sentence ends by a terminator with what may stand behind it (SATerm Close* Sp* ParaSep?), and else 100
+-- 0 where the sentence ends by a terminator with what may stand after it (SATerm Close* Sp* ParaSep?), and else 100
 abbrev pub sentence_status : List ℕ → ℕ
 sentence_status sentence = if is_sa_term (before_close_sp (skip is_para_sep (significant sentence))) then 0 else 100
 
@@ -57,7 +57,7 @@ abbrev pub marked : ℕ → ℕ → Boundary
 marked at status = record { at = at; statuses = status ∷ [] }
 
 -- The boundaries from `at` on by the rule. `segment` has the characters between the last boundary and `at`, and `before` all those before
--- `at`, both nearest first. Then come the characters behind `at`.
+-- `at`, both nearest first. Then come the characters after `at`.
 abbrev pub boundaries_from : Rule → (List ℕ → ℕ) → List ℕ → List ℕ → List ℕ → ℕ → List Boundary
 boundaries_from rule status segment before [] at = marked at (status segment) ∷ []
 boundaries_from rule status segment before (c ∷ behind) at =
@@ -65,7 +65,7 @@ boundaries_from rule status segment before (c ∷ behind) at =
     let longer : List Boundary = boundaries_from rule status (c ∷ segment) (c ∷ before) behind (at + 1) in
     if rule before (c ∷ behind) then ended else longer
 
--- the boundaries behind one at `at`
+-- the boundaries after one at `at`
 abbrev pub boundaries_behind : Rule → (List ℕ → ℕ) → List ℕ → List ℕ → ℕ → List Boundary
 boundaries_behind rule status before [] at = []
 boundaries_behind rule status before (c ∷ behind) at = boundaries_from rule status (c ∷ []) (c ∷ before) behind (at + 1)

@@ -1,15 +1,17 @@
 //! The program `rbbi_unicode`: property files in the form of Unicode's, from the properties that the
-//! kit has, and the boundaries that the kit finds.
+//! kit has, and the boundaries that the kit finds, or the definition of line breaks.
 //!
-//! - With no words: a line for each file, its name and from how many runs of code points it is made.
+//! - With no arguments: a line for each file, its name and from how many runs of code points it is
+//!   made.
 //! - With the name of a file: that file.
-//! - With `grapheme`, `word` or `sentence`, and the path of a text: a line for each segment, the byte
-//!   where it starts.
+//! - With `grapheme`, `word`, `sentence` or `line`, and the path of a text: a line for each segment, the
+//!   byte where it starts. With `line` a line that must be broken there says so by a second number, 100.
 #![tactic(auto)]
 
 mod files;
 
 use files::{PropertyFile, files};
+use rbbi_annexes::{Verdict, line_verdicts};
 use rbbi_builtin::Property;
 use std::io::{self, BufWriter, Write};
 use std::process::ExitCode;
@@ -75,6 +77,25 @@ fn write_file<W: Write>(out: &mut W, file: &PropertyFile) -> io::Result<()> {
     Ok(())
 }
 
+/// Writes the start of each line of a text, in bytes, where the definition lets the line be broken.
+fn write_lines<W: Write>(rt: &HostRuntime, out: &mut W, text: &str) -> io::Result<()> {
+    let mut chars = Vec::new(rt.alloc());
+    let mut starts = Vec::new(rt.alloc());
+    for (start, c) in text.char_indices() {
+        chars.push(c)?;
+        starts.push(start)?;
+    }
+    let verdicts = line_verdicts(rt.alloc(), chars.as_slice())?;
+    for (start, verdict) in starts.iter().zip(verdicts.iter()) {
+        match *verdict {
+            Verdict::MustBreak => writeln!(out, "{start} 100")?,
+            Verdict::MayBreak => writeln!(out, "{start} 0")?,
+            Verdict::NoBreak => {}
+        }
+    }
+    Ok(())
+}
+
 /// Writes the start of each segment of a text, in bytes, and says whether there are such segments.
 fn write_starts<W: Write>(out: &mut W, kind: &str, text: &str) -> io::Result<bool> {
     match kind {
@@ -98,7 +119,7 @@ fn write_starts<W: Write>(out: &mut W, kind: &str, text: &str) -> io::Result<boo
     Ok(true)
 }
 
-/// Writes what the words ask for, and says whether they ask for anything.
+/// Writes what the arguments ask for. The result is whether they are valid.
 fn answer<W: Write>(rt: &HostRuntime, out: &mut W, words: &[String]) -> io::Result<bool> {
     match words {
         [] => {
@@ -116,6 +137,10 @@ fn answer<W: Write>(rt: &HostRuntime, out: &mut W, words: &[String]) -> io::Resu
         }
         [kind, path] => {
             let text = fs::read_to_string(rt, path.as_str())?;
+            if kind.as_str() == "line" {
+                write_lines(rt, out, text.as_str())?;
+                return Ok(true);
+            }
             write_starts(out, kind.as_str(), text.as_str())
         }
         _ => Ok(false),
@@ -131,7 +156,9 @@ fn main(rt: HostRuntime) -> io::Result<ExitCode> {
     let is_answered = answer(&rt, &mut out, &words)?;
     out.flush()?;
     if !is_answered {
-        eprintln!(rt; "usage: rbbi_unicode [FILE | grapheme TEXT | word TEXT | sentence TEXT]")?;
+        eprintln!(rt;
+            "usage: rbbi_unicode [FILE | grapheme TEXT | word TEXT | sentence TEXT | line TEXT]"
+        )?;
         return Ok(ExitCode::from(2));
     }
     Ok(ExitCode::SUCCESS)
