@@ -24,6 +24,7 @@ uint32_t rbbi_c_properties_add(rbbi_files *, const uint8_t *, size_t, const uint
 uint32_t rbbi_c_table_compile(rbbi_files *, const uint8_t *, size_t, bool, rbbi_table *, told *,
                               uint8_t *, size_t);
 uint32_t rbbi_c_table_load(const uint8_t *, size_t, rbbi_table *, told *, uint8_t *, size_t);
+uint32_t rbbi_c_table_named(const uint8_t *, size_t, rbbi_table *);
 uint32_t rbbi_c_table_share(rbbi_table *, rbbi_table *);
 uint32_t rbbi_c_table_write(rbbi_table *, uint8_t *, size_t, size_t *);
 uint32_t rbbi_c_open(rbbi_table *, const uint8_t *, size_t, uint32_t, rbbi_session *);
@@ -41,15 +42,8 @@ uint32_t rbbi_c_current(rbbi_session *, uint32_t *);
 uint32_t rbbi_c_status(rbbi_session *, uint32_t *);
 void rbbi_c_close(void *);
 
-/* The tables that are in the library, as bin/build-c writes them; the last has no name. */
-extern const struct rbbi_built_in {
-    const char *name;
-    const unsigned char *bytes;
-    size_t length;
-} rbbi_built_in[];
-
-/* The version of Unicode of these tables, and what each fault is in a sentence, which bin/build-c
-   writes too; the last has no name. */
+/* The version of Unicode of the built-in tables, and what each fault is in a sentence, as bin/build-c
+   writes them; the last fault has no name. */
 extern const char rbbi_built_in_unicode[];
 extern const struct rbbi_built_in_fault {
     const char *name, *sentence;
@@ -74,7 +68,7 @@ const char *rbbi_message(int answer) {
         "the text or the file is too long",
         "the bytes are not UTF-8",
         "memory ran out",
-        "the room is too small",
+        "the buffer is too small",
         "there is a fault in the rules, the property file or the table file",
         "the library has no table of this name",
     };
@@ -192,11 +186,7 @@ int rbbi_table_named(rbbi_table *table, const char *name) {
     if (!table || !name) {
         return RBBI_NULL;
     }
-    const struct rbbi_built_in *found = rbbi_built_in;
-    while (found->name && strcmp(found->name, name) != 0) {
-        found++;
-    }
-    return found->name ? rbbi_table_load(table, found->bytes, found->length, NULL) : RBBI_NAME;
+    return (int)rbbi_c_table_named((const uint8_t *)name, strlen(name), table);
 }
 
 int rbbi_table_share(rbbi_table *other, rbbi_table *table) {

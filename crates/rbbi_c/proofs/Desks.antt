@@ -2,8 +2,9 @@
 use Rattle.std.proofs.Common.{◌≡◌, ℕ, List, sym, ap, ◌∙◌, subst, Result, Ok, Err}
 use Rattle.rbbi_model.specs.declared.unit.Unit.{Unit as TextUnit}
 use Rattle.rbbi_model.specs.Tables.{Table}
-use Rattle.rbbi_session.specs.UnitSessions.{UnitSession, UnitMovesTo}
-use Rattle.rbbi_session.specs.UnitEdits.{UnitEditAnswers}
+use Rattle.rbbi_session.specs.UnitSessions.{UnitSession}
+use Rattle.rbbi_session.specs.Walks.{Edits}
+use Rattle.rbbi_session.specs.UnitWalks.{UnitSetting, unit_view}
 use Rattle.rbbi_session.specs.declared.unit_error.UnitEditErr.{UnitEditErr}
 use Rattle.rbbi_session.specs.declared.unit_error.UnitEditErr.TheVariants.{Outside, Inside, TooLong, Memory}
 use Rattle.rbbi_session.specs.Pausing.{Paused, IsPaused, resumed}
@@ -15,13 +16,13 @@ resumed-session unit table paused session of_unit of_table kept =
     λ i. record { unit = sym of_unit i; asked = record { table = sym of_table i; state = kept.state_is i; runs = kept.runs_are i } }
 
 -- an edit leaves the unit and the table
-pub edited-keeps : {T : Type 0} (old : UnitSession) (at removed : ℕ) (inserted : List ℕ) (result : Result T UnitEditErr) (new : UnitSession)
-    → UnitEditAnswers old at removed inserted result new → (new.unit ≡ old.unit) × (new.asked.table ≡ old.asked.table)
-edited-keeps old at removed inserted (Ok done) new is = (is.unit_is, is.table_is)
-edited-keeps old at removed inserted (Err Outside) new is = (ap (λ (s : UnitSession). s.unit) is.1, ap (λ (s : UnitSession). s.asked.table) is.1)
-edited-keeps old at removed inserted (Err Inside) new is = (ap (λ (s : UnitSession). s.unit) is.1, ap (λ (s : UnitSession). s.asked.table) is.1)
-edited-keeps old at removed inserted (Err TooLong) new is = (ap (λ (s : UnitSession). s.unit) is.1, ap (λ (s : UnitSession). s.asked.table) is.1)
-edited-keeps old at removed inserted (Err Memory) new is = (ap (λ (s : UnitSession). s.unit) is, ap (λ (s : UnitSession). s.asked.table) is)
+pub edited-keeps : {T : Type 0} (old : UnitSession) (at removed : ℕ) (inserted : List ℕ) (result : Result T UnitEditErr) (new : UnitSession) (before after : ℕ)
+    → Edits unit_view old at removed inserted result new before after → unit_view.setting new ≡ unit_view.setting old
+edited-keeps old at removed inserted (Ok done) new before after is = is.same
+edited-keeps old at removed inserted (Err Outside) new before after is = ap (λ s. unit_view.setting s) is.1.0
+edited-keeps old at removed inserted (Err Inside) new before after is = ap (λ s. unit_view.setting s) is.1.0
+edited-keeps old at removed inserted (Err TooLong) new before after is = ap (λ s. unit_view.setting s) is.1.0
+edited-keeps old at removed inserted (Err Memory) new before after is = ap (λ s. unit_view.setting s) is.0
 
 -- a session goes on as it was paused
 pub resumed-as : {table now : Table} {session : UnitSession} (unit : TextUnit) (paused : Paused) → now ≡ table →
@@ -29,12 +30,13 @@ pub resumed-as : {table now : Table} {session : UnitSession} (unit : TextUnit) (
     → session ≡ record { unit = unit; asked = resumed table paused }
 resumed-as {session = session} unit paused same is = subst (λ (t : Table). session ≡ record { unit = unit; asked = resumed t paused }) same is
 
--- what holds from the session that goes on to the one that is paused then holds from the desk to the one that comes of it
-pub desk-to-desk : (P : UnitSession → UnitSession → Type 0) (unit : TextUnit) {table now : Table} {self was new : UnitSession} {cursor : ℕ}
-    (paused left : Paused) → now ≡ table → was ≡ record { unit = unit; asked = resumed now paused } → record { unit = unit; asked = resumed table paused } ≡ self
-    → UnitMovesTo was cursor new → IsPaused new.asked left → P was new → P self (record { unit = unit; asked = resumed table left })
-desk-to-desk P unit {table = table} {self = self} {was = was} {new = new} paused left same goes view moved kept holds =
+-- what holds from the session that goes on to the one that is paused then holds from the desk to the one after it
+pub desk-to-desk : (P : UnitSession → UnitSession → Type 0) (unit : TextUnit) {table now : Table} {self was new : UnitSession}
+    (paused left : Paused) → now ≡ table → was ≡ record { unit = unit; asked = resumed now paused }
+    → record { unit = unit; asked = resumed table paused } ≡ self
+    → unit_view.setting new ≡ unit_view.setting was → IsPaused new.asked left → P was new → P self (record { unit = unit; asked = resumed table left })
+desk-to-desk P unit {table = table} {self = self} {was = was} {new = new} paused left same goes view setting kept holds =
     let on : was ≡ record { unit = unit; asked = resumed table paused } = resumed-as unit paused same goes in
-    let is = resumed-session unit table left new (moved.unit_is ∙ ap (λ (s : UnitSession). s.unit) on)
-    (moved.table_is ∙ ap (λ (s : UnitSession). s.asked.table) on) kept in
+    let is = resumed-session unit table left new (ap (λ (s : UnitSetting). s.unit) setting ∙ ap (λ (s : UnitSession). s.unit) on)
+    (ap (λ (s : UnitSetting). s.table) setting ∙ ap (λ (s : UnitSession). s.asked.table) on) kept in
     subst (P self) (sym is) (subst (λ s. P s new) (on ∙ view) holds)

@@ -1,8 +1,7 @@
--- What is asked of a session through a handle, and what is told of its reply.
-use Rattle.std.specs.Prelude.{◌≡◌, ℕ}
+-- What is asked of a session through a handle, and what is reported of its reply.
+use Rattle.std.specs.Prelude.{ℕ}
 use Rattle.rbbi_model.specs.Answers.{Question, Reply, Place, Done, Yes, No, Largest, AllOf, Listed, Edited, Outside, Inside, TooLong, Characters}
 use Rattle.rbbi_model.specs.Answers as question
-use Rattle.rbbi_session.specs.UnitSessions.{UnitSession, UnitMovesTo, unit_answer_of}
 use Rattle.rbbi_c.specs.declared.asking.Ask.{Ask}
 use Rattle.rbbi_c.specs.declared.asking.Ask.TheVariants as ask
 use Rattle.rbbi_c.specs.declared.asking.Told.{Told}
@@ -35,12 +34,7 @@ told_of Inside = told.Done
 told_of TooLong = told.Done
 told_of (Characters text) = told.Done
 
--- the session's reply is told, and its cursor goes where the answer says
-pub record IsAnswered (old : UnitSession) (question : Question) (told : Told) (new : UnitSession) : Type 0 where
-  pub told_is : told ≡ told_of (unit_answer_of old question).reply
-  pub moved : UnitMovesTo old (unit_answer_of old question).cursor new
-
--- the code of what is told
+-- the code of what is reported
 abbrev pub code_of : Told → ℕ
 code_of (told.Number n) = 0
 code_of told.Done = 1

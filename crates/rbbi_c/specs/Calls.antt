@@ -1,9 +1,11 @@
 -- What calls on a handle answer, by what it holds, and what they leave in it.
 use Rattle.std.specs.Prelude.{◌≡◌, ℕ, ◌<◌, ◌⊎◌, List, length, Option, Some, Result, Ok, Err, IsUtf8, chars, MatchOption}
 use Rattle.rbbi_model.specs.Answers.{Question}
+use Rattle.rbbi_model.specs.Scripts.{Ask}
 use Rattle.rbbi_text.specs.Bytes.{most_bytes}
-use Rattle.rbbi_session.specs.UnitSessions.{UnitSession, UnitMovesTo, unit_answer_of}
-use Rattle.rbbi_session.specs.UnitEdits.{UnitEditAnswers}
+use Rattle.rbbi_session.specs.UnitSessions.{UnitSession}
+use Rattle.rbbi_session.specs.Walks.{reply_to, turn_of, Edits}
+use Rattle.rbbi_session.specs.UnitWalks.{unit_view}
 use Rattle.rbbi_session.specs.declared.unit_error.UnitEditErr.{UnitEditErr}
 use Rattle.rbbi_session.specs.declared.unit_error.UnitEditErr.TheVariants as edit
 use Rattle.rbbi_c.specs.Asking.{told_of, code_of, number_of}
@@ -15,13 +17,14 @@ use Rattle.rbbi_c.specs.Holding.{session_in}
 abbrev pub IsWrongHandle : Option Held → ℕ → Option Held → Type 0
 IsWrongHandle old code now = (code ≡ 3) × (now ≡ old)
 
--- the session's reply is told by a code and a number, and the handle holds the session that comes of the question
+-- the session's reply is reported by a code and a number, and the handle holds the session after the question
 pub record IsToldThrough (old : UnitSession) (question : Question) (code before after : ℕ) (now : Option Held) : Type 0 where
   pub new : UnitSession
   pub held : now ≡ Some (Session new)
-  pub moved : UnitMovesTo old (unit_answer_of old question).cursor new
-  pub code_is : code ≡ code_of (told_of (unit_answer_of old question).reply)
-  pub number_is : after ≡ number_of before (told_of (unit_answer_of old question).reply)
+  pub same : unit_view.setting new ≡ unit_view.setting old
+  pub state_is : unit_view.state new ≡ (turn_of unit_view old (Ask question)).state
+  pub code_is : code ≡ code_of (told_of (reply_to unit_view old question))
+  pub number_is : after ≡ number_of before (told_of (reply_to unit_view old question))
 
 -- what a question answers through a handle, and what it leaves there
 abbrev pub AnswersThrough : Option Held → Question → ℕ → ℕ → ℕ → Option Held → Type 0
@@ -40,16 +43,18 @@ code_of_edit (Err edit.Inside) = 6
 code_of_edit (Err edit.TooLong) = 7
 code_of_edit (Err edit.Memory) = 9
 
--- the edit of the session is told by a code, and the handle holds the session that comes of it
+-- the edit of the session is reported by a code, and the handle holds the session after it
 pub record IsEditedThrough (old : UnitSession) (at removed : ℕ) (bytes : List ℕ) (code : ℕ) (now : Option Held) : Type 0 where
   pub new : UnitSession
   pub edited : Result (Unit {0}) UnitEditErr
   pub held : now ≡ Some (Session new)
   pub utf8 : IsUtf8 bytes
-  pub answers : UnitEditAnswers old at removed (chars bytes) edited new
+  pub before : ℕ
+  pub after : ℕ
+  pub edits : Edits unit_view old at removed (chars bytes) edited new before after
   pub code_is : code ≡ code_of_edit edited
 
--- What an edit by the characters of these bytes answers through a handle, and what it leaves there. Bytes that are no text are told first.
+-- What an edit by the characters of these bytes answers through a handle, and what it leaves there. Bytes that are no text are reported first.
 abbrev pub EditsThrough : Option Held → ℕ → ℕ → List ℕ → ℕ → Option Held → Type 0
 EditsThrough held at removed bytes code now =
     (IsNoText bytes code × (now ≡ held))

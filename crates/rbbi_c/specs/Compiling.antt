@@ -27,7 +27,7 @@ IsPlaced (property.NotUtf8 at) place = place ≡ Byte at
 IsPlaced (property.BadRow row) place = place ≡ Row row
 IsPlaced property.Memory place = ⊥
 
--- The file is refused for a cause that is told.
+-- The file is refused for a cause that is reported.
 pub record TellsPropertyFault (bytes : List ℕ) (before after : Told) : Type 0 where
   pub error : PropErr
   pub cause : IsCause error bytes
@@ -41,7 +41,7 @@ IsAdded old name bytes code before after new =
     ((code ≡ 0) × IsUtf8 bytes × HasRowsAlone bytes × (new ≡ old ++ named_file name bytes ∷ []) × (after ≡ before))
     ⊎ ((new ≡ old) × (((code ≡ 9) × (after ≡ before)) ⊎ ((code ≡ 11) × TellsPropertyFault bytes before after)))
 
--- the table is compiled from the rules of the bytes, and no fault is told
+-- the table is compiled from the rules of the bytes, and no fault is reported
 abbrev pub IsCompiledFrom : List File → Bool → List ℕ → Told → Told → BreakTable → Type 0
 IsCompiledFrom files ignored bytes before after table = IsUtf8 bytes × CompilesOver files ignored (text_of bytes) table × (after ≡ before)
 
@@ -52,7 +52,7 @@ HasFaultAt files ignored bytes label place =
     ⊎ (IsUtf8 bytes × (error : CompileErr) × HasFaultOver files ignored (text_of bytes) error × (label ≡ label_of error)
     × (place ≡ place_in (text_of bytes) (place_of error)))
 
--- the rules of the bytes have a fault, the first of which is told
+-- the rules of the bytes have a fault, the first of which is reported
 pub record TellsRuleFault (files : List File) (ignored : Bool) (bytes : List ℕ) (before after : Told) : Type 0 where
   pub label : List ℕ
   pub place : Place

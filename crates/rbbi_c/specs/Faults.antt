@@ -1,4 +1,4 @@
--- Faults as they are told to C.
+-- Faults as they are reported to C.
 use Rattle.std.specs.Prelude.{◌≡◌, ℕ, List, length, Option, None, Some}
 use Rattle.rbbi_command.specs.declared.refusal.Place.{Place}
 use Rattle.rbbi_command.specs.declared.refusal.Place.TheVariants.{Whole, Byte, Row, Within}
@@ -25,7 +25,7 @@ pub record Told : Type 0 where
 abbrev pub told : Fault → List ℕ → Told
 told fault name = record { fault = fault; name = name }
 
--- the fault of this name is told
+-- the fault of this name is reported
 pub record IsTold (label : List ℕ) (place : Place) (before after : Told) : Type 0 where
   pub fault : after.fault ≡ fault_at (length label) place
   pub name : IsCopied label before.name after.name

@@ -7,4 +7,5 @@ pub mod Reading
 pub mod Opening
 pub mod Faults
 pub mod Tables
+pub mod Named
 pub mod Compiling

@@ -1,7 +1,9 @@
 -- What calls that only read a session answer.
 use Rattle.std.specs.Prelude.{◌≡◌, ℕ, List, length, Option, MatchOption}
 use Rattle.rbbi_model.specs.Answers.{AllOf, Statuses}
-use Rattle.rbbi_session.specs.UnitSessions.{UnitSession, offset_in, unit_answer_of}
+use Rattle.rbbi_session.specs.UnitSessions.{UnitSession, offset_in}
+use Rattle.rbbi_session.specs.Walks.{reply_to}
+use Rattle.rbbi_session.specs.UnitWalks.{unit_view}
 use Rattle.rbbi_c.specs.Calls.{IsWrongHandle}
 use Rattle.rbbi_c.specs.Copying.{IsCopied, room_code}
 use Rattle.rbbi_c.specs.declared.held.Held.{Held}
@@ -16,7 +18,7 @@ MeasuresThrough held code before after now =
 -- The statuses at the cursor are written, as many as there is room for, and counted.
 pub record AreListed (old : UnitSession) (before after : List ℕ) (count : ℕ) : Type 0 where
   pub list : List ℕ
-  pub statuses : AllOf list ≡ (unit_answer_of old Statuses).reply
+  pub statuses : AllOf list ≡ reply_to unit_view old Statuses
   pub copied : IsCopied list before after
   pub counted : count ≡ length list
 

@@ -13,11 +13,11 @@ use Rattle.rbbi_c.specs.Holding.{table_in, HoldsSomething}
 use Rattle.rbbi_c.specs.declared.held.Held.{Held}
 use Rattle.rbbi_c.specs.declared.held.Held.TheVariants.{Table}
 
--- the bytes spell the table, in either version, and no fault is told
+-- the bytes spell the table, in either version, and no fault is reported
 abbrev pub IsLoaded : List ℕ → Told → Told → BreakTable → Type 0
 IsLoaded bytes before after table = ReadsTable bytes (Ok table) × (after ≡ before)
 
--- the bytes are no table file, and the first fault is told
+-- the bytes are no table file, and the first fault is reported
 pub record TellsFileFault (bytes : List ℕ) (before after : Told) : Type 0 where
   pub error : FileErr
   pub refused : ReadsTable bytes (Err error)

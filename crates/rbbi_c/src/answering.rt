@@ -14,7 +14,7 @@ use std::marker::Brand;
 use std::rt::Memory;
 use std::sync::ledger::{Blank, Ledger};
 
-/// Writes what is told to where C wants it.
+/// Writes what is reported to where C wants it.
 fn tell(told: Told, number: &mut u32) -> u32
     ensures code { result ≡ code_of told }
     ensures number { number.new ≡ number_of number.old told }

@@ -1,11 +1,11 @@
 //! Questions to a session, and what they answer.
-ghost use Rattle.rbbi_c.specs.Asking.{question_of, IsAnswered};
 ghost use Rattle.std.specs.Prelude.{◌≡◌};
-ghost use Rattle.rbbi_c.specs.Asking.{told_of};
+ghost use Rattle.rbbi_c.specs.Asking.{question_of, told_of};
 ghost use Rattle.rbbi_session.specs.Sessions.{place_reply};
-ghost use Rattle.rbbi_session.specs.UnitSessions.{UnitAsks};
+ghost use Rattle.rbbi_session.specs.Walks.{IsAsked, reply_to};
+ghost use Rattle.rbbi_session.specs.UnitWalks.{unit_view};
 
-use rbbi_session::UnitSession;
+use rbbi_session::{UnitSession, Walk};
 use rbbi_text::{Pieces, Steps};
 use std::sync::ledger::Ledger;
 
@@ -23,14 +23,14 @@ pub(crate) enum Ask {
     Status,
 }
 
-/// What is told of a reply: a number, or that there is no such boundary.
+/// What is reported of a reply: a number, or that there is no such boundary.
 #[derive(Clone, Copy, Debug)]
 pub(crate) enum Told {
     Number(u32),
     Done,
 }
 
-/// What is told of a place that was found, or not.
+/// What is reported of a place that was found, or not.
 fn found(place: Option<u32>) -> Told
     ensures { result ≡ told_of (place_reply place) }
 {
@@ -46,9 +46,12 @@ pub(crate) fn answered<L: Ledger>(
     asked: Ask,
     steps: &mut Steps<L>,
 ) -> Told
-    ensures answered { IsAnswered session.old (question_of asked) result session.new }
-    ensures reads { UnitAsks session.old (question_of asked) session.new steps.old steps.new }
+    ensures told { result ≡ told_of (reply_to unit_view session.old (question_of asked)) }
+    ensures asked { IsAsked unit_view session.old (question_of asked) session.new
+        steps.old steps.new }
 {
+    // What is kept is true also where nothing is asked of it.
+    session.runs_are_true();
     match asked {
         Ask::First => Told::Number(session.first()),
         Ask::Last => Told::Number(session.last(steps)),

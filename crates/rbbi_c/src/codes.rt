@@ -30,5 +30,8 @@ pub(crate) const MEMORY: u32 = 9;
 /// The caller's room is too small.
 pub(crate) const ROOM: u32 = 10;
 
-/// The rules, a property file or a table have a fault, which is told.
+/// The rules, a property file or a table have a fault, which is reported.
 pub(crate) const FAULT: u32 = 11;
+
+/// No built-in table has this name.
+pub(crate) const NAME: u32 = 12;

@@ -21,7 +21,7 @@ use std::alloc::Global;
 /// The most bytes that a rule file may have.
 const MOST_RULES: usize = 1_048_576;
 
-/// Adds the rows of a property file, or tells why not.
+/// Adds the rows of a property file, or reports why not.
 fn add_file(
     files: &mut PropTable,
     property: &str,
@@ -42,7 +42,7 @@ fn add_file(
 }
 
 /// The table of the bytes of a rule file, over property files and what is built in, or the code of
-/// the refusal. A fault is told.
+/// the refusal. A fault is reported.
 fn compiled(
     alloc: Global,
     bytes: &[u8],
@@ -70,7 +70,7 @@ fn compiled(
     }
 }
 
-/// Adds a property file to those that a handle holds. A fault is told.
+/// Adds a property file to those that a handle holds. A fault is reported.
 pub(crate) fn add_through(
     alloc: Global,
     files: &mut Handle,
@@ -128,7 +128,7 @@ fn compiled_with(
 }
 
 /// The table of the rules of a rule file, by the property files that a handle holds, or by none. A
-/// fault is told.
+/// fault is reported.
 pub(crate) fn compiled_by(
     alloc: Global,
     files: &mut Handle,

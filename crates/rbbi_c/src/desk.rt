@@ -1,14 +1,15 @@
 //! A session that owns its table.
 ghost use Rattle.std.specs.Prelude.{◌≡◌, length, IfOk, chars};
-ghost use Rattle.rbbi_c.specs.Asking.{question_of, IsAnswered};
-ghost use Rattle.rbbi_session.specs.UnitSessions.{IsOpenedBy, UnitAsks, offset_in};
-ghost use Rattle.rbbi_session.specs.UnitEdits.{UnitEditAnswers};
+ghost use Rattle.rbbi_c.specs.Asking.{question_of, told_of};
+ghost use Rattle.rbbi_session.specs.UnitSessions.{IsOpenedBy, offset_in};
+ghost use Rattle.rbbi_session.specs.Walks.{IsAsked, Edits, reply_to};
+ghost use Rattle.rbbi_session.specs.UnitWalks.{unit_view};
 ghost use Rattle.rbbi_c.specs.Reading.{AreListed};
 
 use crate::asking::{Ask, Told, answered};
 use crate::copying::copy_front;
 use crate::shared::SharedTable;
-use rbbi_session::{Paused, UnitEditErr, UnitSession};
+use rbbi_session::{Paused, UnitEditErr, UnitSession, Walk};
 use rbbi_text::{Pieces, Steps, Unit};
 use std::alloc::{AllocError, Global};
 use std::marker::Model;
@@ -55,8 +56,8 @@ impl Desk {
 
     /// What a question answers, and the session after it.
     pub(crate) fn ask<L: Ledger>(self, asked: Ask, steps: &mut Steps<L>) -> (Desk, Told)
-        ensures answered { IsAnswered self (question_of asked) result.1 result.0 }
-        ensures reads { UnitAsks self (question_of asked) result.0 steps.old steps.new }
+        ensures told { result.1 ≡ told_of (reply_to unit_view self (question_of asked)) }
+        ensures asked { IsAsked unit_view self (question_of asked) result.0 steps.old steps.new }
     {
         let Desk {
             table,
@@ -82,7 +83,8 @@ impl Desk {
         insert: &str,
         steps: &mut Steps<L>,
     ) -> (Desk, Result<(), UnitEditErr>)
-        ensures { UnitEditAnswers self at remove (chars insert.now) result.1 result.0 }
+        ensures { Edits unit_view self at remove (chars insert.now) result.1 result.0
+            steps.old steps.new }
     {
         let Desk {
             table,

@@ -1,4 +1,4 @@
-//! Faults of rules, property files and tables, as they are told to C.
+//! Faults of rules, property files and tables, as they are reported to C.
 use crate::codes;
 use crate::copying::copy_front;
 use rbbi_command::Place;

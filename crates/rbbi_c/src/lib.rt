@@ -1,4 +1,4 @@
-//! The engine behind a C interface.
+//! The engine with a C interface.
 #![tactic(auto)]
 
 mod answering;
@@ -13,6 +13,7 @@ mod held;
 mod lending;
 mod loading;
 mod loose;
+mod named;
 mod opening;
 mod questions;
 mod rules;
@@ -24,6 +25,7 @@ mod tests;
 
 pub use faults::Fault;
 pub use handle::Handle;
+pub use named::rbbi_c_table_named;
 pub use questions::{
     rbbi_c_current, rbbi_c_first, rbbi_c_following, rbbi_c_is_boundary, rbbi_c_last, rbbi_c_next,
     rbbi_c_preceding, rbbi_c_previous, rbbi_c_status,

@@ -19,7 +19,7 @@ use rbbi_text::MOST_BYTES;
 use std::alloc::Global;
 
 /// The table that the bytes of a table file spell, of either version, or the code of the refusal. A
-/// fault is told.
+/// fault is reported.
 pub(crate) fn loaded(
     alloc: Global,
     bytes: &[u8],

@@ -27,7 +27,7 @@ pub extern "C" fn rbbi_c_properties(memory: Memory, files: &mut Handle) -> u32
     keep(alloc, files, Held::Properties(PropTable::new(alloc)))
 }
 
-/// Adds a property file under the name of its property. A fault is told.
+/// Adds a property file under the name of its property. A fault is reported.
 #[unsafe(no_mangle)]
 pub extern "C" fn rbbi_c_properties_add(
     memory: Memory,
@@ -44,7 +44,7 @@ pub extern "C" fn rbbi_c_properties_add(
 }
 
 /// Compiles the rules of a rule file, with property files or, by a handle that holds nothing,
-/// without. A fault is told.
+/// without. A fault is reported.
 #[unsafe(no_mangle)]
 pub extern "C" fn rbbi_c_table_compile(
     memory: Memory,

@@ -12,7 +12,7 @@ use crate::opening::{is_open, keep, table_in};
 use std::alloc::Global;
 use std::rt::Memory;
 
-/// Loads the table of a table file, of either version. A fault is told.
+/// Loads the table of a table file, of either version. A fault is reported.
 #[unsafe(no_mangle)]
 pub extern "C" fn rbbi_c_table_load(
     memory: Memory,
@@ -51,8 +51,8 @@ pub extern "C" fn rbbi_c_table_share(memory: Memory, table: &mut Handle, other: 
     keep(alloc, other, Held::Table(shared))
 }
 
-/// Writes the table file of a table, of version 2, as much of it as there is room for, and tells
-/// its length.
+/// Writes the table file of a table, of version 2, as much of it as there is room for, and its
+/// length.
 #[unsafe(no_mangle)]
 pub extern "C" fn rbbi_c_table_write(
     memory: Memory,

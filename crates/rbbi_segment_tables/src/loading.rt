@@ -40,8 +40,8 @@ fn bytes_of(kind: Kind) -> &'static [u8]
     }
 }
 
-/// The built-in table of a kind. It gives the boundaries of each text by UAX #29, and those of lines
-/// by the rules of rules/line.rules.
+/// The built-in table of a kind. It gives the boundaries of each text by UAX #29, or those of lines
+/// by rules/line.rules.
 ///
 /// Refuses only where memory runs out.
 pub fn built_in(alloc: Global, kind: Kind) -> Result<Table, AllocError>

@@ -1,16 +1,18 @@
-use Rattle.rbbi_session.specs.UnitSessions.{UnitAsks}
-use Rattle.rbbi_c.specs.Asking.{question_of, IsAnswered}
+use Rattle.std.proofs.Common.{◌≡◌}
+use Rattle.rbbi_session.specs.Walks.{IsAsked, reply_to}
+use Rattle.rbbi_session.specs.UnitWalks.{unit_view}
+use Rattle.rbbi_c.specs.Asking.{question_of, told_of}
 use Rattle.rbbi_c.proofs.Desks.{desk-to-desk}
 use Rattle.rbbi_c.proofs.desk.Desk.ask.Goals as goal
 
-pub returns-clause-answered : goal.returns-clause-answered
-returns-clause-answered g c =
-    desk-to-desk (λ old new. IsAnswered old (question_of c.args.asked) c.answered-told.result new)
+pub returns-clause-told : goal.returns-clause-told
+returns-clause-told g c =
+    desk-to-desk (λ old new. c.answered-told.result ≡ told_of (reply_to unit_view old (question_of c.args.asked)))
     c.self.inside.unit c.self.inside.paused c.pause-paused.result c.table.ensures c.resume-session.ensures c.self.view_is
-    c.answered-told.ensures.answered.moved c.pause-paused.ensures c.answered-told.ensures.answered
+    c.answered-told.ensures.asked.same c.pause-paused.ensures c.answered-told.ensures.told
 
-pub returns-clause-reads : goal.returns-clause-reads
-returns-clause-reads g c =
-    desk-to-desk (λ old new. UnitAsks old (question_of c.args.asked) new c.args.steps.now c.answered-told.new.steps)
+pub returns-clause-asked : goal.returns-clause-asked
+returns-clause-asked g c =
+    desk-to-desk (λ old new. IsAsked unit_view old (question_of c.args.asked) new c.args.steps.now c.answered-told.new.steps)
     c.self.inside.unit c.self.inside.paused c.pause-paused.result c.table.ensures c.resume-session.ensures c.self.view_is
-    c.answered-told.ensures.answered.moved c.pause-paused.ensures c.answered-told.ensures.reads
+    c.answered-told.ensures.asked.same c.pause-paused.ensures c.answered-told.ensures.asked
