@@ -13,7 +13,7 @@ use Rattle.rbbi_segment.specs.declared.options.Task.TheVariants.{Check, Segment}
 use Rattle.rbbi_segment.specs.Segments.{segments_between}
 use Rattle.rbbi_segment.specs.Lines.{lines_in}
 
--- The file of this name holds the bytes, if the files tell what they hold. Of the standard input, `-`, nothing is told.
+-- The file of this name holds the bytes, if the files tell what they hold. Of standard input, `-`, nothing is known.
 abbrev pub IsHeld : Option (List ℕ → List ℕ) → List ℕ → List ℕ → Type 0
 IsHeld contents name bytes = name ≢ codes "-" → IfSome contents (λ held. bytes ≡ held name)
 

@@ -37,7 +37,7 @@ color_begin colors color = if colors.are_on then code_of color else []
 abbrev pub color_end : Colors → List ℕ
 color_end colors = if colors.are_on then 27 ∷ codes "[0m" else []
 
--- where the segment starts and ends in the unit, and its status, parted by spaces
+-- where the segment starts and ends in the unit, and its status, separated by spaces
 abbrev pub plain_head : Segment → List ℕ
 plain_head segment = decimal segment.start_offset ++ (32 ∷ decimal segment.end_offset) ++ (32 ∷ decimal segment.status)
 
@@ -61,7 +61,7 @@ within style = if style.is_json then InJson else Quotes
 abbrev pub quoted : Style → List ℕ → List ℕ
 quoted style characters = 34 ∷ flat_map (shown (within style)) characters ++ 34 ∷ []
 
--- what stands behind the quotes
+-- what follows the quotes
 abbrev pub tail : Style → List ℕ
 tail style = if style.is_json then 125 ∷ 10 ∷ [] else 10 ∷ []
 
@@ -77,7 +77,7 @@ has statuses status = nat_le statuses.least status && nat_le status statuses.gre
 abbrev pub line_if_wanted : Style → List ℕ → Segment → List ℕ
 line_if_wanted style x segment = if has style.only segment.status then line style x segment else []
 
--- a segment was taken: its line went out or waits
+-- a segment was taken: its line was written or waits
 pub record TakesLine (old : Quoted) (before : Option (List ℕ)) (x : List ℕ) (segment : Segment) (new : Quoted) (now : Option (List ℕ)) : Type 0 where
   pub same : new.style ≡ old.style
   pub put : IsBuffered before now (old.made.items ++ line_if_wanted old.style x segment) new.made.items

@@ -1,4 +1,4 @@
-//! From the words of the command line to what they ask for.
+//! From the arguments to what they ask for.
 
 use crate::colors::When;
 use crate::escapes::append_name;
@@ -17,7 +17,7 @@ const ABOUT: &str = "Break a text into graphemes, words, sentences or lines";
 
 const LONG_ABOUT: &str = "Break a text into graphemes, words, sentences or lines.
 
-Each segment is put in a line: its start and its end, its status, and the segment in quotes.
+It prints one line per segment: its start, its end, its status, and the segment in quotes.
 The tables for the rules of Unicode (UAX #29 and UAX #14) are built in; --rules and --table
 use your own.";
 
@@ -28,19 +28,19 @@ const AFTER_HELP: &str = "Examples:
   segment --rules my.rules notes.txt       the segments by your rules
   segment --check my.rules                 the first fault of your rules
 
-Exit status: 0 done; 1 the rule file has a fault; 2 wrong arguments, or a file that can't be
-read, used or written.";
+Exit status: 0 done; 1 the rule file has a fault; 2 invalid arguments, or a file that can't be
+read, used or written; 141 nobody reads the output any more.";
 
-const BAD_PROPERTY: &[u8] = b"error: --prop wants NAME=FILE, as WB=WordBreakProperty.txt; NAME has \
+const BAD_PROPERTY: &[u8] = b"error: --prop takes NAME=FILE, as WB=WordBreakProperty.txt; NAME has \
     letters, digits, spaces, _ and -, with a letter or digit among them\n";
 
 const NEEDS_RULES: &[u8] = b"error: --prop and --ignore-dictionary go with --rules or --check\n";
 
 const BAD_STATUS: &[u8] =
-    b"error: --only wants a status or a range of them, as 100, 100.. or 100..200\n";
+    b"error: --only takes a status or a range of them, as 100, 100.. or 100..200\n";
 
 const REVERSED_RANGE: &[u8] =
-    b"error: --only wants the smaller status of a range first, as 100..200\n";
+    b"error: --only takes the smaller status of a range first, as 100..200\n";
 
 /// What an option takes.
 #[derive(Clone, Copy)]
@@ -54,7 +54,7 @@ enum Takes {
     Choice(&'static str, &'static [&'static str]),
 }
 
-/// An option of the command line.
+/// An option.
 #[derive(Clone, Copy)]
 struct Described {
     name: &'static str,
@@ -92,7 +92,7 @@ static OPTIONS: [Described; 11] = [
         short: None,
         takes: Takes::Value("RULES"),
         conflicts: &["file", "format", "count", "units", "only"],
-        help: "Tell the first fault of this rule file, and how to write it right",
+        help: "Report the first fault of this rule file, and how to mend it",
     },
     Described {
         name: "prop",
@@ -106,21 +106,21 @@ static OPTIONS: [Described; 11] = [
         short: None,
         takes: Takes::Nothing,
         conflicts: &["by", "table"],
-        help: "Take an assignment to $dictionary in the rule file as any other",
+        help: "Accept an assignment to $dictionary in the rule file as any other",
     },
     Described {
         name: "format",
         short: Some('f'),
         takes: Takes::Choice("FORMAT", &["text", "json", "marked"]),
         conflicts: &["count"],
-        help: "How segments are put [default: text]",
+        help: "How segments are printed [default: text]",
     },
     Described {
         name: "count",
         short: Some('c'),
         takes: Takes::Nothing,
         conflicts: &[],
-        help: "Put how many segments there are of each status",
+        help: "Print how many segments have each status",
     },
     Described {
         name: "units",
@@ -168,7 +168,7 @@ fn option_of<'a>(alloc: Global, described: &Described) -> Result<Arg<'a>, AllocE
 fn command<'a>(alloc: Global) -> Result<Command<'a>, AllocError> {
     let file = Arg::new(alloc, "file")
         .value_name("FILE")
-        .help("The text; the standard input where it is - or left out");
+        .help("The text; standard input if it is - or missing");
     let mut command = Command::new(alloc, "segment")
         .no_binary_name(true)
         .version(VERSION)
@@ -223,7 +223,7 @@ fn refused(alloc: Global, words: &Vec<String>, error: &Error) -> Result<Failure,
     }
 }
 
-/// The failure that an option's value is of no stated form.
+/// The failure that an option's value is invalid.
 fn bad_value(alloc: Global, message: &[u8]) -> Failure {
     let mut text = Vec::new(alloc);
     match append(message, &mut text) {
@@ -293,7 +293,7 @@ fn is_property_name(name: &str) -> bool {
             || matches!(*byte, b' ' | b'_' | b'-'))
 }
 
-/// The property files, each parted from its name at the first `=`.
+/// The property files, each separated from its name at the first `=`.
 fn properties_of<'a>(
     alloc: Global,
     matches: &ArgMatches<'a>,
@@ -321,7 +321,7 @@ fn only_of(alloc: Global, matches: &ArgMatches<'_>) -> Result<Statuses, Failure>
     }
 }
 
-/// What the words behind the program's name ask for.
+/// What the arguments ask for.
 pub(crate) fn request_of<'a>(
     alloc: Global,
     words: &'a Vec<String>,

@@ -35,7 +35,7 @@ pub(crate) struct Colors {
 /// What a colour is for.
 #[derive(Clone, Copy)]
 pub(crate) enum Color {
-    /// What tells of the text and isn't part of it.
+    /// What is about the text and isn't part of it.
     Faint,
     /// A mark in the text.
     Mark,

@@ -1,5 +1,6 @@
 //! How a run ends early.
 
+use crate::colors::Colors;
 use rbbi_io::WriteErr;
 use std::alloc::{AllocError, AllocFailed};
 
@@ -9,6 +10,9 @@ pub(crate) const HAS_FAULT: u8 = 1;
 /// The exit status where the words are wrong, or a file can't be read, used or written.
 pub(crate) const IS_REFUSED: u8 = 2;
 
+/// The exit status where nobody reads the output any more: that of a program that `SIGPIPE` ends.
+pub(crate) const IS_CLOSED: u8 = 141;
+
 /// Why a run ends early.
 #[derive(Drop)]
 pub(crate) enum Failure {
@@ -16,6 +20,8 @@ pub(crate) enum Failure {
     Shown(Vec<u8>),
     /// The exit status, and what goes to the standard error.
     Told(u8, Vec<u8>),
+    /// The file of this name couldn't be read. What is reported has these colours.
+    Unread(String, Colors),
     /// The output couldn't be written.
     Unwritten,
     /// Memory ran out.

@@ -1,14 +1,21 @@
-//! What is told of a fault.
+//! What is reported of a fault.
+ghost use Rattle.std.specs.Prelude.{◌≤◌, length};
+ghost use Rattle.rbbi_text.specs.Bytes.{most_bytes};
 
 use crate::colors::{Color, Colors};
 use crate::escapes::{append_name, append_plain, is_hidden};
 use crate::failure::{Failure, HAS_FAULT};
-use crate::fault_texts::{syntax_help, text_of};
+use crate::fault_texts::{TABLE_FILE, text_of};
+use crate::hints::help_at;
+use crate::missing::missing_at;
 use crate::source::{Position, position_of};
 use crate::unknown::{append_advice, cause_of};
-use rbbi_builtin::Advice;
+use crate::variables::append_name_advice;
+use rbbi_builtin::advice_at;
+use rbbi_props::PropTable;
 use rbbi_text::{append, append_number};
 use std::alloc::{AllocError, Global};
+use std::io;
 use unicode_width::UnicodeWidthChar;
 
 /// At most this many characters of a line are shown.
@@ -47,10 +54,10 @@ fn append_cause(
     append(cause.as_bytes(), out)
 }
 
-/// Appends a line of what was expected.
-fn append_help(help: &str, out: &mut Vec<u8>) -> Result<(), AllocError> {
+/// Appends how to mend it, in a line of its own.
+fn append_help(help: &[u8], out: &mut Vec<u8>) -> Result<(), AllocError> {
     append(b"\n", out)?;
-    append(help.as_bytes(), out)?;
+    append(help, out)?;
     append(b"\n", out)
 }
 
@@ -101,57 +108,75 @@ fn append_shown(
     colors.append(Color::Fault, b"^", out)
 }
 
-/// Appends where a fault stands in a rule file, and what it is.
+/// Appends the name of a rule file, a place in it and what is wrong there, and shows the place.
 fn append_at(
     source: &Source<'_>,
-    position: &Position<'_>,
+    place: u32,
     label: &str,
     cause: &str,
     out: &mut Vec<u8>,
 ) -> Result<(), AllocError> {
+    let position = position_of(source.text, place);
     append_name(source.name, out)?;
     append(b":", out)?;
     append_number(position.row, out)?;
     append(b":", out)?;
     append_number(position.column, out)?;
     append_cause(label, cause, source.colors, out)?;
-    append_shown(position, source.colors, out)
+    append_shown(&position, source.colors, out)
 }
 
-/// Appends what is told of a fault at a place of a rule file.
-fn append_fault(
+/// Where a fault of a rule file is shown, and what is wrong there. Appends how to mend it.
+fn report(
+    alloc: Global,
     source: &Source<'_>,
     label: &str,
     place: u32,
-    out: &mut Vec<u8>,
-) -> Result<(), AllocError> {
-    let position = position_of(source.text, place);
+    given: &PropTable,
+    help: &mut Vec<u8>,
+) -> Result<(u32, &'static str), AllocError>
+    requires { length source.now.text.now ≤ most_bytes }
+{
+    if label == "Syntax"
+        && let Some((at, text)) = missing_at(alloc, source.text, place)?
+    {
+        append(text.help.as_bytes(), help)?;
+        return Ok((at, text.cause));
+    }
+    if label == "UnknownProperty"
+        && let Some(advice) = advice_at(alloc, source.text, place, given)?
+    {
+        append_advice(&advice, help)?;
+        return Ok((place, cause_of(advice.unknown)));
+    }
+    if label == "Undefined" || label == "Redefined" {
+        append_name_advice(alloc, source.text, label == "Redefined", place, help)?;
+    }
     let text = text_of(label);
-    append_at(source, &position, label, text.cause, out)?;
-    let help = if label == "Syntax" {
-        syntax_help(position.found)
-    } else {
-        text.help
-    };
-    append_help(help, out)
+    let hint = help_at(label, &position_of(source.text, place)).unwrap_or(text.help);
+    let is_table = source.text.starts_with("RBBITBL");
+    append(if is_table { TABLE_FILE } else { hint }.as_bytes(), help)?;
+    Ok((place, text.cause))
 }
 
-/// Appends what is told of a property at a place of a rule file that isn't found.
-fn append_unknown(
+/// Appends what is reported of a fault at a place of a rule file.
+fn append_fault(
+    alloc: Global,
     source: &Source<'_>,
+    label: &str,
     place: u32,
-    advice: &Advice,
+    given: &PropTable,
     out: &mut Vec<u8>,
-) -> Result<(), AllocError> {
-    let position = position_of(source.text, place);
-    let cause = cause_of(advice.unknown);
-    append_at(source, &position, "UnknownProperty", cause, out)?;
-    append(b"\n", out)?;
-    append_advice(advice, out)?;
-    append(b"\n", out)
+) -> Result<(), AllocError>
+    requires { length source.now.text.now ≤ most_bytes }
+{
+    let mut help = Vec::new(alloc);
+    let (at, cause) = report(alloc, source, label, place, given, &mut help)?;
+    append_at(source, at, label, cause, out)?;
+    append_help(&help, out)
 }
 
-/// Appends what is told of a fault of a file.
+/// Appends what is reported of a fault of a file.
 fn append_of(
     name: &str,
     label: &str,
@@ -170,27 +195,62 @@ fn append_of(
         append(b", at byte ", out)?;
         append_number(at, out)?;
     }
-    append_help(text.help, out)
+    append_help(text.help.as_bytes(), out)
 }
 
-/// The failure that a rule file has a fault of this label at a place, in characters from 0.
-pub(crate) fn fault_at(alloc: Global, source: &Source<'_>, label: &str, place: u32) -> Failure {
-    let mut message = Vec::new(alloc);
-    match append_fault(source, label, place, &mut message) {
-        Ok(()) => Failure::Told(HAS_FAULT, message),
-        Err(_) => Failure::Memory,
+/// A reason in the system's words, without its number.
+fn without_number(reason: &str) -> &str {
+    match reason.split_once(" (os error") {
+        Some((words, _)) => words,
+        None => reason,
     }
 }
 
-/// The failure that a property at a place of a rule file isn't found.
-pub(crate) fn unknown_at(
+/// Appends a reason in the system's words, without its number.
+pub(crate) fn append_reason(
+    alloc: Global,
+    reason: io::Error,
+    out: &mut Vec<u8>,
+) -> Result<(), AllocError> {
+    let text = format!(in alloc; "{reason}")?;
+    append(without_number(text.as_str()).as_bytes(), out)
+}
+
+/// What is reported of a file that can't be read, with the system's reason if that is known.
+pub(crate) fn unread(
+    alloc: Global,
+    name: &str,
+    reason: Option<io::Error>,
+    colors: Colors,
+) -> Result<Vec<u8>, AllocError> {
+    let mut out = Vec::new(alloc);
+    let Some(reason) = reason else {
+        append_of(name, "Unreadable", Place::Whole, colors, &mut out)?;
+        return Ok(out);
+    };
+    append_name(name, &mut out)?;
+    append_cause("Unreadable", "", colors, &mut out)?;
+    append_reason(alloc, reason, &mut out)?;
+    append(b"\n", &mut out)?;
+    Ok(out)
+}
+
+/// The failure that a rule file has a fault of this label at a place, in characters from 0, with
+/// the property files that are given.
+///
+/// It is reported at the place, but for a `;` or a bracket that is missing, which is reported where
+/// it is missing.
+pub(crate) fn fault_at(
     alloc: Global,
     source: &Source<'_>,
+    label: &str,
     place: u32,
-    advice: &Advice,
-) -> Failure {
+    given: &PropTable,
+) -> Failure
+    requires { length source.now.text.now ≤ most_bytes }
+{
     let mut message = Vec::new(alloc);
-    match append_unknown(source, place, advice, &mut message) {
+    match append_fault(alloc, source, label, place, given, &mut message) {
         Ok(()) => Failure::Told(HAS_FAULT, message),
         Err(_) => Failure::Memory,
     }

@@ -1,7 +1,7 @@
 //! The program `segment`, for people: the graphemes, words, sentences or lines of a text.
 //!
-//! `arguments` reads the words of the command line, `program` goes through a run, `segments` hands
-//! the segments over, and `quoted`, `marked` and `tally` have what each format makes of them.
+//! `arguments` reads the arguments, `program` goes through a run, `segments` hands the segments
+//! over, and `quoted`, `marked` and `tally` have what each format makes of them.
 #![tactic(auto)]
 
 mod arguments;
@@ -11,7 +11,9 @@ mod escapes;
 mod failure;
 mod fault_texts;
 mod faults;
+mod hints;
 mod marked;
+mod missing;
 mod only;
 mod options;
 mod program;
@@ -20,8 +22,11 @@ mod reading;
 mod rules;
 mod segments;
 mod source;
+mod system;
 mod tally;
 mod unknown;
+mod variables;
 
 pub use colors::Surroundings;
 pub use program::segment;
+pub use system::System;

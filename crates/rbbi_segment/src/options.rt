@@ -1,4 +1,4 @@
-//! What the words of the command line ask for.
+//! What the arguments ask for.
 
 use crate::colors::When;
 use crate::only::Statuses;
@@ -16,12 +16,12 @@ pub(crate) enum Basis<'a> {
     Table(&'a str),
 }
 
-/// How segments are put.
+/// How segments are printed.
 #[derive(Clone, Copy)]
 pub(crate) enum Format {
     /// A line for each: start, end, status, and the segment in quotes.
     Text,
-    /// A JSON object for each, one in a line.
+    /// A JSON object for each, one per line.
     Json,
     /// The text, with a mark where a segment begins or ends.
     Marked,
@@ -32,9 +32,9 @@ pub(crate) enum Format {
 /// What is to be done.
 #[derive(Clone, Copy)]
 pub(crate) enum Task<'a> {
-    /// Tell the faults of the rule file.
+    /// Report the first fault of the rule file.
     Check,
-    /// Put the segments of the text of this name, or of the standard input if it is `-`.
+    /// Print the segments of the text of this name, or of standard input if it is `-`.
     Segment(&'a str),
 }
 
@@ -45,7 +45,7 @@ pub(crate) struct Property<'a> {
     pub(crate) file: &'a str,
 }
 
-/// What the words ask for.
+/// What the arguments ask for.
 #[derive(Drop)]
 pub(crate) struct Request<'a> {
     pub(crate) task: Task<'a>,

@@ -10,23 +10,26 @@ ghost use Rattle.rbbi_segment.specs.Segments.{segments};
 use crate::arguments::request_of;
 use crate::basis::table_of;
 use crate::colors::{Colors, Surroundings};
-use crate::failure::{Failure, IS_REFUSED};
+use crate::failure::{Failure, IS_CLOSED, IS_REFUSED};
+use crate::faults::{append_reason, unread};
 use crate::marked::Marked;
 use crate::options::{Format, Request, Task};
 use crate::quoted::{Quoted, Style};
 use crate::reading::read_text;
 use crate::segments::hand_over;
+use crate::system::System;
 use crate::tally::Tally;
 use rbbi_io::{Files, Sink, WriteErr, put_all};
 use rbbi_table::Table;
-use rbbi_text::{PlainText, Steps, Unit};
-use std::alloc::Global;
+use rbbi_text::{PlainText, Steps, Unit, append};
+use std::alloc::{AllocError, Global};
 use std::collections::BTreeMap;
-use std::io::Read;
+use std::io;
+use std::io::{ErrorKind, Read};
 use std::sync::ledger::Ledger;
 
-/// Puts a line for each segment of a text by a table whose status is asked for, with offsets in the
-/// unit.
+/// Prints a line for each segment of a text by a table whose status is asked for, with offsets in
+/// the unit.
 fn put_lines<K: Sink, L: Ledger>(
     alloc: Global,
     style: Style,
@@ -44,7 +47,7 @@ fn put_lines<K: Sink, L: Ledger>(
     hand_over(alloc, table, text, unit, &mut receiver, out, steps)
 }
 
-/// Puts the segments of a text by a table, in the format that is asked for.
+/// Prints the segments of a text by a table, in the format that is asked for.
 fn put_segments<K: Sink, L: Ledger>(
     alloc: Global,
     request: &Request<'_>,
@@ -92,7 +95,7 @@ fn put_segments<K: Sink, L: Ledger>(
     }
 }
 
-/// Puts the segments of the text with this name by a table.
+/// Prints the segments of the text with this name by a table.
 fn segment_text<F: Files, R: Read, K: Sink, L: Ledger>(
     alloc: Global,
     request: &Request<'_>,
@@ -117,7 +120,7 @@ fn segment_text<F: Files, R: Read, K: Sink, L: Ledger>(
 /// Does what a request asks for.
 ///
 /// With the built-in table of graphemes, words or sentences, and in a format that has lines, it
-/// puts the lines of the segments of the text by UAX #29.
+/// prints the lines of the segments of the text by UAX #29.
 fn perform<F: Files, R: Read, K: Sink, L: Ledger>(
     alloc: Global,
     request: &Request<'_>,
@@ -143,40 +146,73 @@ fn perform<F: Files, R: Read, K: Sink, L: Ledger>(
     }
 }
 
-/// Puts a message as far as can be, and answers the status.
-fn tell<K: Sink>(status: u8, message: &[u8], errors: &mut K) -> u8 {
-    let _ = put_all(errors, message);
-    status
+/// The exit status and the message of a run whose output can't be written. If nobody reads it any
+/// more, as with `head`, nothing is said.
+fn unwritten(alloc: Global, reason: Option<io::Error>) -> Result<(u8, Vec<u8>), AllocError> {
+    let mut message = Vec::new(alloc);
+    let Some(reason) = reason else {
+        append(b"segment: the output can't be written\n", &mut message)?;
+        return Ok((IS_REFUSED, message));
+    };
+    if reason.kind() == ErrorKind::BrokenPipe {
+        return Ok((IS_CLOSED, message));
+    }
+    append(b"segment: the output can't be written: ", &mut message)?;
+    append_reason(alloc, reason, &mut message)?;
+    append(b"\n", &mut message)?;
+    Ok((IS_REFUSED, message))
 }
 
-/// Tells why a run ended early, and answers the exit status.
-fn tell_failure<K: Sink, E: Sink>(failure: Failure, out: &mut K, errors: &mut E) -> u8 {
+/// The exit status and the message of a run that ended early.
+fn ending<K: Sink, S: System>(
+    alloc: Global,
+    failure: Failure,
+    system: &S,
+    out: &mut K,
+) -> Result<(u8, Vec<u8>), AllocError> {
     match failure {
         Failure::Shown(text) => match put_all(out, &text) {
-            Ok(()) => 0,
-            Err(_) => tell(
-                IS_REFUSED,
-                b"segment: the output can't be written\n",
-                errors,
-            ),
+            Ok(()) => Ok((0, Vec::new(alloc))),
+            Err(_) => unwritten(alloc, system.unwritten()),
         },
-        Failure::Told(status, message) => tell(status, &message, errors),
-        Failure::Unwritten => tell(
-            IS_REFUSED,
-            b"segment: the output can't be written\n",
-            errors,
-        ),
-        Failure::Memory => tell(IS_REFUSED, b"segment: memory ran out\n", errors),
+        Failure::Told(status, message) => Ok((status, message)),
+        Failure::Unread(name, colors) => {
+            let reason = system.unread(name.as_str());
+            Ok((IS_REFUSED, unread(alloc, name.as_str(), reason, colors)?))
+        }
+        Failure::Unwritten => unwritten(alloc, system.unwritten()),
+        Failure::Memory => Err(AllocError),
     }
 }
 
-/// Runs the program on the words behind its name, and answers the exit status: 0 where all is done,
-/// 1 where the rule file has a fault, and 2 where the words are wrong, a file can't be read or
-/// used, the output can't be written, or memory runs out.
-pub fn segment<F: Files, R: Read, K: Sink, E: Sink, L: Ledger>(
+/// Says why a run ended early, as far as possible, and answers the exit status.
+fn tell<K: Sink, E: Sink, S: System>(
+    alloc: Global,
+    failure: Failure,
+    system: &S,
+    out: &mut K,
+    errors: &mut E,
+) -> u8 {
+    match ending(alloc, failure, system, out) {
+        Ok((status, message)) => {
+            let _ = put_all(errors, &message);
+            status
+        }
+        Err(_) => {
+            let _ = put_all(errors, b"segment: memory ran out\n");
+            IS_REFUSED
+        }
+    }
+}
+
+/// Runs the program on the arguments after its name, and answers the exit status: 0 if all is done,
+/// 1 if the rule file has a fault, 141 if nobody reads the output any more, and 2 if the arguments
+/// are invalid, a file can't be read or used, the output can't be written, or memory runs out.
+pub fn segment<F: Files, R: Read, K: Sink, E: Sink, S: System, L: Ledger>(
     alloc: Global,
     words: &Vec<String>,
     surroundings: Surroundings,
+    system: &S,
     files: &mut F,
     input: &mut R,
     out: &mut K,
@@ -185,10 +221,10 @@ pub fn segment<F: Files, R: Read, K: Sink, E: Sink, L: Ledger>(
 ) -> u8 {
     let request = match request_of(alloc, words) {
         Ok(request) => request,
-        Err(failure) => return tell_failure(failure, out, errors),
+        Err(failure) => return tell(alloc, failure, system, out, errors),
     };
     match perform(alloc, &request, surroundings, files, input, out, steps) {
         Ok(()) => 0,
-        Err(failure) => tell_failure(failure, out, errors),
+        Err(failure) => tell(alloc, failure, system, out, errors),
     }
 }

@@ -29,7 +29,7 @@ pub(crate) struct Quoted {
     pub(crate) made: Vec<u8>,
 }
 
-/// Appends where a segment starts and ends in the unit, and its status, parted by spaces.
+/// Appends where a segment starts and ends in the unit, and its status, separated by spaces.
 fn append_plain_head(segment: Segment, out: &mut Vec<u8>) -> Result<(), AllocError>
     ensures { OnOk result (out.new.items ≡ out.old.items ++ spec.plain_head segment) }
 {
@@ -66,7 +66,7 @@ fn append_head(style: Style, segment: Segment, out: &mut Vec<u8>) -> Result<(), 
     append(b" ", out)
 }
 
-/// Appends what stands behind the quotes.
+/// Appends what follows the quotes.
 fn append_tail(style: Style, out: &mut Vec<u8>) -> Result<(), AllocError>
     ensures { OnOk result (out.new.items ≡ out.old.items ++ spec.tail style) }
 {

@@ -42,7 +42,7 @@ fn bytes_of<F: Files, R: Read>(
     }
 }
 
-/// The same, with what is told where they can't be read.
+/// The same, with what is reported if they can't be read.
 pub(crate) fn read<F: Files, R: Read>(
     alloc: Global,
     name: &str,
@@ -54,13 +54,13 @@ pub(crate) fn read<F: Files, R: Read>(
     ensures within { IfOk result (λ bytes. length bytes ≤ limit) }
     ensures held { IfOk result (IsHeld (F.contents files.old) name.now) }
 {
-    let label = match bytes_of(alloc, name, limit, files, input) {
+    let failure = match bytes_of(alloc, name, limit, files, input) {
         Ok(bytes) => return Ok(bytes),
-        Err(ReadErr::Failed) => "Unreadable",
-        Err(ReadErr::TooLong) => "TooLong",
-        Err(ReadErr::Memory) => return Err(Failure::Memory),
+        Err(ReadErr::Failed) => Failure::Unread(String::from_str(alloc, name)?, colors),
+        Err(ReadErr::TooLong) => fault_of(alloc, IS_REFUSED, name, "TooLong", Place::Whole, colors),
+        Err(ReadErr::Memory) => Failure::Memory,
     };
-    Err(fault_of(alloc, IS_REFUSED, name, label, Place::Whole, colors))
+    Err(failure)
 }
 
 /// The text of a file, or of the standard input.

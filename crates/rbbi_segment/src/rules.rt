@@ -7,23 +7,12 @@ ghost use Rattle.rbbi_segment.specs.RuleFiles.{HasFileFault};
 
 use crate::colors::Colors;
 use crate::failure::{Failure, HAS_FAULT};
-use crate::faults::{Place, Source, fault_at, fault_of, unknown_at};
-use rbbi_builtin::{advice_at, compile_over};
+use crate::faults::{Place, Source, fault_at, fault_of};
+use rbbi_builtin::compile_over;
 use rbbi_compile::{CompileErr, rule_text};
 use rbbi_props::PropTable;
 use rbbi_table::Table;
 use std::alloc::Global;
-
-/// What a property at a place that isn't found comes to, with the property files that are given.
-fn unknown(alloc: Global, source: &Source<'_>, place: u32, given: &PropTable) -> Failure
-    requires { length source.now.text.now ≤ most_bytes }
-{
-    match advice_at(alloc, source.text, place, given) {
-        Ok(Some(advice)) => unknown_at(alloc, source, place, &advice),
-        Ok(None) => fault_at(alloc, source, "UnknownProperty", place),
-        Err(_) => Failure::Memory,
-    }
-}
 
 /// What an error of a rule file comes to, with the property files that are given.
 fn told(alloc: Global, source: &Source<'_>, error: &CompileErr, given: &PropTable) -> Failure
@@ -31,13 +20,12 @@ fn told(alloc: Global, source: &Source<'_>, error: &CompileErr, given: &PropTabl
 {
     let Source { name, colors, .. } = *source;
     match error.place() {
-        Some(place) if error.label() == "UnknownProperty" => unknown(alloc, source, place, given),
-        Some(place) => fault_at(alloc, source, error.label(), place),
+        Some(place) => fault_at(alloc, source, error.label(), place, given),
         None => fault_of(alloc, HAS_FAULT, name, error.label(), Place::Whole, colors),
     }
 }
 
-/// The table of a rule file, over property files and what is built in. Beside want of memory the
+/// The table of a rule file, over property files and what is built in. Unless memory runs out the
 /// failure is the first fault of its bytes and of its text.
 pub(crate) fn table_of_rules(
     alloc: Global,

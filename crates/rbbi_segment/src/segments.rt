@@ -45,7 +45,7 @@ pub(crate) trait Receive {
         ensures { OnOk result (takes self.old (K.taken out.old) text.now segment
             self.new (K.taken out.new)) };
 
-    /// Puts what is left behind the last segment.
+    /// Prints what is left after the last segment.
     fn end<K: Sink>(&mut self, out: &mut K) -> Result<(), WriteErr>
         ensures { OnOk result (ends self.old (K.taken out.old) (K.taken out.new)) };
 }
@@ -61,7 +61,7 @@ fn largest_of(numbers: &[u32]) -> u32
     most
 }
 
-/// The segment that begins at a boundary, whose offset in the unit is handed in. Its end is counted
+/// The segment that begins at a boundary, whose offset in the unit is given. Its end is counted
 /// on from there.
 fn next_segment<L: Ledger>(
     table: &Table,

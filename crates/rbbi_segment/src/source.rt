@@ -9,8 +9,30 @@ pub(crate) struct Position<'a> {
     pub(crate) column: u32,
     /// What the line holds, without its end.
     pub(crate) line: &'a str,
-    /// The character at the place, if one stands there.
-    pub(crate) found: Option<char>,
+    /// The character before the place in its line, but for white space.
+    pub(crate) last: Option<char>,
+    /// What the line holds from the place on.
+    pub(crate) rest: &'a str,
+}
+
+/// The position of a column of a line, both from 1.
+fn position_in(line: &str, row: u32, column: u32) -> Position<'_> {
+    let line = line.strip_suffix('\r').unwrap_or(line);
+    let mut characters = line.chars();
+    let mut last = None;
+    for _ in 1..column {
+        match characters.next() {
+            Some(c) if !c.is_whitespace() => last = Some(c),
+            _ => {}
+        }
+    }
+    Position {
+        row,
+        column,
+        line,
+        last,
+        rest: characters.as_str(),
+    }
 }
 
 /// Where a place of the text stands, in characters from 0. A place past the end counts as the end.
@@ -20,20 +42,10 @@ pub(crate) fn position_of(text: &str, place: u32) -> Position<'_> {
     for line in text.split('\n') {
         let count = line.chars().count();
         if left as usize <= count {
-            return Position {
-                row,
-                column: left.saturating_add(1),
-                line: line.strip_suffix('\r').unwrap_or(line),
-                found: text.chars().nth(place as usize),
-            };
+            return position_in(line, row, left.saturating_add(1));
         }
         left -= count as u32 + 1;
         row = row.saturating_add(1);
     }
-    Position {
-        row,
-        column: 1,
-        line: "",
-        found: None,
-    }
+    position_in("", row, 1)
 }

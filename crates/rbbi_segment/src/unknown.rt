@@ -1,4 +1,4 @@
-//! What is told of a property that isn't found.
+//! What is reported of a property that isn't found.
 
 use rbbi_builtin::{Advice, Property, Unknown, VERSION};
 use rbbi_text::append;
@@ -14,8 +14,8 @@ pub(crate) fn cause_of(unknown: Unknown) -> &'static str {
     }
 }
 
-/// Appends the names that are near, as a question.
-fn append_near(near: &[&str], out: &mut Vec<u8>) -> Result<(), AllocError> {
+/// Appends the names that are near, as a question, each after a sign.
+pub(crate) fn append_near(sign: &[u8], near: &[&str], out: &mut Vec<u8>) -> Result<(), AllocError> {
     if near.is_empty() {
         return Ok(());
     }
@@ -26,6 +26,7 @@ fn append_near(near: &[&str], out: &mut Vec<u8>) -> Result<(), AllocError> {
         } else if place > 0 {
             append(b", ", out)?;
         }
+        append(sign, out)?;
         append(name.as_bytes(), out)?;
     }
     append(b"? ", out)
@@ -50,7 +51,7 @@ fn append_form(property: Property, out: &mut Vec<u8>) -> Result<(), AllocError> 
 
 /// Appends what was expected.
 pub(crate) fn append_advice(advice: &Advice, out: &mut Vec<u8>) -> Result<(), AllocError> {
-    append_near(&advice.near, out)?;
+    append_near(b"", &advice.near, out)?;
     match advice.unknown {
         Unknown::Name => append(
             b"A name alone is a general category, a script or a binary property, as \\p{Lu}.",

@@ -4,17 +4,18 @@
 
 ghost use Rattle.std.specs.Prelude.{◌≡◌, ◌<◌};
 
-#[cfg(test)]
-mod tests;
+mod system;
 
+use crate::system::{Noting, RealSystem};
 use rbbi_io::{RealFiles, RealSink, words};
 use rbbi_segment::{Surroundings, segment};
 use rbbi_text::Steps;
-use std::env;
-use std::io::IsTerminal;
+use std::cell::Cell;
+use std::io::{ErrorKind, IsTerminal};
 use std::marker::Brand;
 use std::process::ExitCode;
 use std::sync::ledger::{Blank, Ledger};
+use std::{env, io};
 
 /// Whether the surroundings ask for no colours, by `NO_COLOR`, or by a terminal that has none.
 fn asks_for_no_color(rt: &HostRuntime) -> bool {
@@ -46,13 +47,19 @@ fn run<L: Ledger>(rt: &HostRuntime, words: &Vec<String>, blank: Blank) -> u8
 {
     let mut files = RealFiles::new(rt);
     let mut input = rt.stdin();
-    let mut out = RealSink::new(rt.stdout());
+    let fault = Cell::new(None);
+    let mut out = RealSink::new(Noting {
+        out: rt.stdout(),
+        fault: &fault,
+    });
+    let system = RealSystem { rt, fault: &fault };
     let mut errors = RealSink::new(rt.stderr());
     let mut steps = Steps::<L>::new(rt, blank);
     segment(
         rt.alloc(),
         words,
         surroundings(rt),
+        &system,
         &mut files,
         &mut input,
         &mut out,
@@ -61,11 +68,20 @@ fn run<L: Ledger>(rt: &HostRuntime, words: &Vec<String>, blank: Blank) -> u8
     )
 }
 
+/// Why there are no arguments.
+fn refusal(fault: &io::Error) -> &'static str {
+    if fault.kind() == ErrorKind::InvalidData {
+        "an argument isn't UTF-8: give a file of such a name as standard input, segment < FILE"
+    } else {
+        "the system doesn't give the arguments"
+    }
+}
+
 fn main(rt: HostRuntime) -> ExitCode {
     match words(&rt) {
         Ok(words) => ExitCode::from(run::<Brand>(&rt, &words, Blank::new(1))),
-        Err(_) => {
-            let _ = eprintln!(rt; "segment: the system doesn't give the words, or one isn't UTF-8");
+        Err(fault) => {
+            let _ = eprintln!(rt; "segment: {}", refusal(&fault));
             ExitCode::from(2)
         }
     }
