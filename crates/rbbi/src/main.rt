@@ -3,9 +3,6 @@
 
 ghost use Rattle.std.specs.Prelude.{◌≡◌, ◌<◌};
 
-#[cfg(test)]
-mod tests;
-
 use rbbi_io::{RealFiles, RealSink, words};
 use rbbi_text::Steps;
 use rbbi_tool::rbbi;
@@ -28,8 +25,8 @@ fn run<L: Ledger>(rt: &HostRuntime, words: &Vec<String>, blank: Blank) -> u8
     status
 }
 
-/// Tells on the standard error why a run ended without a line of its own, and where it wrote a
-/// table file or tried to, whether that is the new one. Nothing where that fails too.
+/// Prints to standard error why a run ended without a line of its own, and if it wrote a table
+/// file or tried to, whether that is the new one. Prints nothing if that fails too.
 fn tell_silent_end(rt: &HostRuntime, status: u8, files: &RealFiles<'_, HostRuntime>) {
     let cause = match status {
         7 if files.failed_writes() > 0 => "the table file could not be written",

@@ -1,23 +1,11 @@
 //! Partitions and sets of classes, by tables of cases by hand.
-use crate::ranges::{Pairs, set_of};
-use rbbi_classes::Division;
+use crate::ranges::{LAST, set_of};
+use rbbi_classes::{ClassSet, Division};
 use std::alloc::{AllocError, Global};
 
 mod character_sets;
 mod class_sets;
 mod divisions;
-
-/// Two sets and what each operation gives of them.
-#[derive(Drop)]
-struct Case {
-    left: Pairs,
-    right: Pairs,
-    union: Pairs,
-    intersect: Pairs,
-    minus: Pairs,
-    /// What is in the second set and not in the first.
-    other_minus: Pairs,
-}
 
 /// The division by some sets.
 fn division_by(alloc: Global, lists: &[&[(u32, u32)]]) -> Result<Division, AllocError> {
@@ -45,4 +33,28 @@ fn is_in(pairs: &[(u32, u32)], c: u32) -> bool {
         }
     }
     false
+}
+
+/// The first code points that are asked for, and those after the last, where the tests have ends of
+/// ranges.
+const ASKED: [(u32, u32); 4] = [
+    (0, 10_010),
+    (0xD700, 0xE100),
+    (LAST - 1, LAST + 2),
+    (u32::MAX - 1, u32::MAX),
+];
+
+/// Whether there is a set, whose classes have these code points.
+fn are(division: &Division, set: &Result<ClassSet, AllocError>, want: &[(u32, u32)]) -> bool {
+    let Ok(set) = set else {
+        return false;
+    };
+    for span in &ASKED {
+        for c in span.0..span.1 {
+            if division.has(set, c) != is_in(want, c) {
+                return false;
+            }
+        }
+    }
+    true
 }

@@ -1,4 +1,4 @@
-//! Tests of texts, files and sets of code points, by public calls: nothing but tests.
+//! Tests of texts, files, rows of bits and sets, by public calls: nothing but tests.
 //!
 //! A crate with tests of its own is proved twice, so those of these crates stand here.
 #![tactic(auto)]
@@ -11,8 +11,6 @@ mod classes;
 mod code_sets;
 #[cfg(test)]
 mod files_and_sinks;
-#[cfg(test)]
-mod numbered_rows;
 #[cfg(test)]
 mod ranges;
 #[cfg(test)]

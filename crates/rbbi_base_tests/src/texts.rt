@@ -1,116 +1,93 @@
 //! Each public call once, on values from outside.
-ghost use Rattle.std.specs.Prelude.{◌≡◌, ◌<◌, IfOk};
+ghost use Rattle.std.specs.Prelude.{◌≡◌, ◌<◌, ◌≤◌, length, IfOk};
+ghost use Rattle.rbbi_text.specs.Bytes.{most_bytes};
 
 use rbbi_text::{
-    Chars, EditErr, EditText, Index, Pieces, PlainText, Raw, RawErr, Steps, TextErr, Unit,
-    UnitText, Word, decimal, hexadecimal, without_mark,
+    Chars, EditText, Index, Pieces, PlainText, Raw, RawErr, Steps, TextErr, Unit, UnitText, Word,
+    decimal, hexadecimal, without_mark,
 };
 use std::alloc::{AllocError, Global};
 use std::marker::Brand;
-use std::process::Abort;
 use std::sync::ledger::{Blank, Ledger};
-use std::test::Fail;
 
-/// The characters of a text, read one by one.
-fn shown<L: Ledger>(rt: &HostRuntime, text: &PlainText, blank: Blank) -> Result<String, AllocError>
+/// Whether a text has these characters, as a text by pieces has them.
+fn is_text(host: &HostRuntime, text: &PlainText, wanted: &str) -> bool {
+    match Pieces::new(host.alloc(), wanted) {
+        Ok(pieces) => are_same(host, &pieces, text),
+        Err(_) => false,
+    }
+}
+
+/// Whether a file has these bytes.
+fn holds<L: Ledger>(host: &HostRuntime, raw: &Raw, wanted: &[u8], blank: Blank) -> bool
     requires name { blank.name ≡ L.name }
     requires parts { blank.parts ≡ L.parts }
     requires some { 0 < blank.parts }
 {
-    let mut steps = Steps::<L>::new(rt, blank);
-    let mut shown = String::new(rt.alloc());
-    for i in 0..text.len() {
-        shown.push(text.char_at(i, &mut steps))?;
+    let mut steps = Steps::<L>::new(host, blank);
+    raw.bytes(&mut steps) == wanted
+}
+
+/// The same, with a counter of its own.
+pub(crate) fn is_raw(host: &HostRuntime, raw: &Raw, wanted: &[u8]) -> bool {
+    holds::<Brand>(host, raw, wanted, Blank::new(1))
+}
+
+fn raw_of(alloc: Global, text: &str) -> Result<Raw, AllocError>
+    ensures { IfOk result (λ raw. raw ≡ text.now) }
+{
+    Ok(Raw::new(text.as_bytes().to_vec(alloc)?))
+}
+
+const TEXTS: [&str; 4] = ["", "a", "caf\u{e9}", "\u{feff}a\u{e9}\u{4e00}\u{1f1e6}"];
+
+#[test]
+fn texts_of_strings_and_bytes(rt: HostRuntime) {
+    for row in &TEXTS {
+        let text = *row;
+        assert!(rt; text.len() < 100);
+        let plain = PlainText::new(rt.alloc(), text).expect(&rt, text);
+        assert!(rt; is_text(&rt, &plain, text));
+        let raw = raw_of(rt.alloc(), text).expect(&rt, text);
+        assert!(rt; is_raw(&rt, &raw, text.as_bytes()));
+        let plain = PlainText::from_raw(rt.alloc(), &raw).expect(&rt, text);
+        assert!(rt; is_text(&rt, &plain, text));
     }
-    Ok(shown)
-}
-
-/// The bytes of a file, as a copy.
-fn copied<L: Ledger>(rt: &HostRuntime, raw: &Raw, blank: Blank) -> Result<Vec<u8>, AllocError>
-    requires name { blank.name ≡ L.name }
-    requires parts { blank.parts ≡ L.parts }
-    requires some { 0 < blank.parts }
-{
-    let mut steps = Steps::<L>::new(rt, blank);
-    raw.bytes(&mut steps).to_vec(rt.alloc())
-}
-
-pub(crate) fn bytes_of(rt: &HostRuntime, raw: &Raw) -> Result<Vec<u8>, AllocError> {
-    copied::<Brand>(rt, raw, Blank::new(1))
-}
-
-fn raw_of(alloc: Global, bytes: &[u8]) -> Result<Raw, AllocError>
-    ensures { IfOk result (λ raw. raw ≡ bytes.now) }
-{
-    Ok(Raw::new(bytes.to_vec(alloc)?))
 }
 
 #[test]
-fn texts_of_strings(rt: HostRuntime) -> Result<(), Fail> {
-    let alloc = rt.alloc();
-    for text in ["", "a", "caf\u{e9}", "\u{feff}\u{4e00}\u{1f1e6}b"] {
-        let plain = PlainText::new(alloc, text)?;
-        assert_eq!(rt; plain.len() as usize, text.chars().count(), "of {text:?}");
-        let shown = shown::<Brand>(&rt, &plain, Blank::new(1))?;
-        assert_eq!(rt; shown.as_str(), text);
-    }
-    Ok(())
+fn words(rt: HostRuntime) {
+    let word = Word::new(rt.alloc(), "\u{e9}\u{1f1e6}").expect(&rt, "a word");
+    assert!(rt; word.as_str() == "\u{e9}\u{1f1e6}");
 }
 
-#[test]
-fn texts_of_bytes(rt: HostRuntime) -> Result<(), Fail> {
-    let alloc = rt.alloc();
-    let text = "\u{feff}a\u{e9}\u{4e00}\u{1f1e6}";
-    let raw = raw_of(alloc, text.as_bytes())?;
-    let plain = PlainText::from_raw(alloc, &raw)?;
-    let shown = shown::<Brand>(&rt, &plain, Blank::new(1))?;
-    assert_eq!(rt; shown.as_str(), text);
-    let bytes = bytes_of(&rt, &raw)?;
-    assert_eq!(rt; bytes.as_slice(), text.as_bytes());
-    Ok(())
-}
-
-/// What an edit answers.
-fn edited<T: EditText>(text: &mut T, at: u32, remove: u32, insert: &str) -> &'static str {
+/// Whether an edit is refused by this name, or taken where that is empty.
+fn answers<T: EditText>(text: &mut T, at: u32, remove: u32, insert: &str, name: &str) -> bool {
     match text.replace(at, remove, insert) {
-        Ok(()) => "Ok",
-        Err(EditErr::Outside) => "Outside",
-        Err(EditErr::TooLong) => "TooLong",
-        Err(EditErr::Memory) => "Memory",
+        Ok(()) => name.is_empty(),
+        Err(refusal) => refusal.label() == name && refusal.place().is_none(),
     }
 }
 
 const EDITS: [(u32, u32, &str, &str, &str); 8] = [
-    (0, 0, "", "Ok", "ab\u{e9}cd"),
+    (0, 0, "", "", "ab\u{e9}cd"),
     (5, 1, "x", "Outside", "ab\u{e9}cd"),
     (6, 0, "", "Outside", "ab\u{e9}cd"),
     (u32::MAX, u32::MAX, "x", "Outside", "ab\u{e9}cd"),
-    (5, 0, "e", "Ok", "ab\u{e9}cde"),
-    (1, 4, "\u{1f1e6}", "Ok", "a\u{1f1e6}e"),
-    (0, 1, "xyz", "Ok", "xyz\u{1f1e6}e"),
-    (0, 5, "", "Ok", ""),
+    (5, 0, "e", "", "ab\u{e9}cde"),
+    (1, 4, "\u{1f1e6}", "", "a\u{1f1e6}e"),
+    (0, 1, "xyz", "", "xyz\u{1f1e6}e"),
+    (0, 5, "", "", ""),
 ];
 
 #[test]
-fn edits(rt: HostRuntime) -> Result<(), Fail> {
-    let alloc = rt.alloc();
-    let mut plain = PlainText::new(alloc, "ab\u{e9}cd")?;
+fn edits(rt: HostRuntime) {
+    let mut plain = PlainText::new(rt.alloc(), "ab\u{e9}cd").expect(&rt, "a text");
     for row in &EDITS {
-        let (at, remove, insert, answer, after) = *row;
-        assert_eq!(rt; edited(&mut plain, at, remove, insert), answer, "at {at}");
-        let shown = shown::<Brand>(&rt, &plain, Blank::new(1))?;
-        assert_eq!(rt; shown.as_str(), after, "at {at}");
+        let (at, remove, insert, name, after) = *row;
+        assert!(rt; answers(&mut plain, at, remove, insert, name), "at {at}");
+        assert!(rt; is_text(&rt, &plain, after), "at {at}");
     }
-    Ok(())
-}
-
-#[test]
-fn words(rt: HostRuntime) -> Result<(), Fail> {
-    let alloc = rt.alloc();
-    for text in ["", "rbbi", "\u{e9}\u{1f1e6}"] {
-        assert_eq!(rt; Word::new(alloc, text)?.as_str(), text);
-    }
-    Ok(())
 }
 
 const MARKS: [(&str, &str); 6] = [
@@ -125,8 +102,7 @@ const MARKS: [(&str, &str); 6] = [
 #[test]
 fn marks(rt: HostRuntime) {
     for row in &MARKS {
-        let (text, rest) = *row;
-        assert_eq!(rt; without_mark(text), rest, "of {text:?}");
+        assert!(rt; without_mark(row.0) == row.1, "of {:?}", row.0);
     }
 }
 
@@ -145,44 +121,36 @@ const NUMBERS: [(&[u8], Option<u32>, Option<u32>); 9] = [
 #[test]
 fn numbers(rt: HostRuntime) {
     for row in &NUMBERS {
-        let (text, ten, sixteen) = *row;
-        assert_eq!(rt; decimal(text, u32::MAX), ten, "of {text:?}");
-        assert_eq!(rt; hexadecimal(text, 4, 6, 0x10FFFF), sixteen, "of {text:?}");
+        assert!(rt; decimal(row.0, u32::MAX) == row.1, "of {:?}", row.0);
+        assert!(rt;
+            hexadecimal(row.0, 4, 6, 0x10FFFF) == row.2,
+            "of {:?}",
+            row.0
+        );
     }
 }
 
-const RAW_REFUSALS: [(RawErr, &str, Option<u32>); 3] = [
+const REFUSALS: [(RawErr, &str, Option<u32>); 3] = [
     (RawErr::NotUtf8(7), "NotUtf8", Some(7)),
     (RawErr::TooManyChars, "TooManyChars", None),
     (RawErr::Memory, "Memory", None),
 ];
 
-const EDIT_REFUSALS: [(EditErr, &str); 3] = [
-    (EditErr::Outside, "Outside"),
-    (EditErr::TooLong, "TooLong"),
-    (EditErr::Memory, "Memory"),
-];
-
 #[test]
 fn names_of_refusals(rt: HostRuntime) {
-    for (fault, label, place) in &RAW_REFUSALS {
-        assert_eq!(rt; fault.label(), *label);
-        assert_eq!(rt; fault.place(), *place);
+    for row in &REFUSALS {
+        assert!(rt; row.0.label() == row.1 && row.0.place() == row.2);
     }
-    for (fault, label) in &EDIT_REFUSALS {
-        assert_eq!(rt; fault.label(), *label);
-        assert_eq!(rt; fault.place(), None);
-    }
-    assert_eq!(rt; TextErr::TooManyChars.label(), "TooManyChars");
+    assert!(rt; TextErr::TooManyChars.label() == "TooManyChars");
 }
 
 /// Whether two texts have the same characters.
-fn are_same<L: Ledger>(rt: &HostRuntime, text: &Pieces, plain: &PlainText, blank: Blank) -> bool
+fn have_same<L: Ledger>(host: &HostRuntime, text: &Pieces, plain: &PlainText, blank: Blank) -> bool
     requires name { blank.name ≡ L.name }
     requires parts { blank.parts ≡ L.parts }
     requires some { 0 < blank.parts }
 {
-    let mut steps = Steps::<L>::new(rt, blank);
+    let mut steps = Steps::<L>::new(host, blank);
     if text.len() != plain.len() {
         return false;
     }
@@ -194,93 +162,95 @@ fn are_same<L: Ledger>(rt: &HostRuntime, text: &Pieces, plain: &PlainText, blank
     true
 }
 
-#[test]
-fn edits_by_pieces(rt: HostRuntime) -> Result<(), Fail> {
-    let alloc = rt.alloc();
-    let mut letters = String::new(alloc);
-    for _letter in 0..3000 {
-        letters.push('a')?;
-    }
-    let mut text = Pieces::new(alloc, &letters)?;
-    let mut plain = PlainText::new(alloc, &letters)?;
-    for n in 0..500 {
-        text.replace(7 * n, 1, "bc")?;
-        plain.replace(7 * n, 1, "bc")?;
-    }
-    assert_eq!(rt; text.len(), 3500);
-    // An edit that is refused, and others that join pieces, split them, and leave nothing.
-    let rows: [(u32, u32, &str); 8] = [
-        (3501, 0, "x"),
-        (100, 3300, "\u{e9}"),
-        (50, 100, ""),
-        (0, 0, &letters),
-        (1000, 1500, &letters),
-        (4600, 0, "z"),
-        (10, 4500, ""),
-        (0, 200, ""),
-    ];
-    for (at, remove, insert) in rows {
-        let answer = text.replace(at, remove, insert).is_ok();
-        assert_eq!(rt; plain.replace(at, remove, insert).is_ok(), answer);
-        assert!(rt;
-            are_same::<Brand>(&rt, &text, &plain, Blank::new(1)),
-            "at {at}"
-        );
-    }
-    Ok(())
+/// The same, with a counter of its own.
+fn are_same(host: &HostRuntime, text: &Pieces, plain: &PlainText) -> bool {
+    have_same::<Brand>(host, text, plain, Blank::new(1))
 }
 
-/// Whether each 4,097th character of a text is this one.
-fn is_all<T: Chars, L: Ledger>(rt: &HostRuntime, text: &T, letter: char, blank: Blank) -> bool
-    requires name { blank.name ≡ L.name }
-    requires parts { blank.parts ≡ L.parts }
-    requires some { 0 < blank.parts }
-{
-    let mut steps = Steps::<L>::new(rt, blank);
-    for row in 0..4096 {
-        let i = row * 4097;
-        if i < text.len() && text.char_at(i, &mut steps) != letter {
+/// An edit, and the name of its refusal, empty where it is taken. None inserts 3,000 letters.
+type Edit = (u32, u32, Option<&'static str>, &'static str);
+
+/// Edits that join pieces, split them, and leave nothing.
+const EDITS_OF_PIECES: [Edit; 8] = [
+    (3501, 0, Some("x"), "Outside"),
+    (100, 3300, Some("\u{e9}"), ""),
+    (50, 100, Some(""), ""),
+    (0, 0, None, ""),
+    (1000, 1500, None, ""),
+    (4600, 0, Some("z"), ""),
+    (10, 4500, Some(""), ""),
+    (0, 200, Some(""), "Outside"),
+];
+
+/// Whether two texts take an edit or refuse it alike.
+fn are_edited(text: &mut Pieces, plain: &mut PlainText, edit: Edit, letters: &str) -> bool {
+    let (at, remove, insert, name) = edit;
+    let insert = insert.unwrap_or(letters);
+    answers(text, at, remove, insert, name) && answers(plain, at, remove, insert, name)
+}
+
+/// Whether two texts take 500 edits alike.
+fn are_split(text: &mut Pieces, plain: &mut PlainText) -> bool {
+    for n in 0..500 {
+        if !are_edited(text, plain, (7 * n, 1, Some("bc"), ""), "") {
             return false;
         }
     }
     true
 }
 
+#[test]
+fn edits_by_pieces(rt: HostRuntime) {
+    let letters = "a".repeat(rt.alloc(), 3000).expect(&rt, "letters");
+    let mut text = Pieces::new(rt.alloc(), &letters).expect(&rt, "a text");
+    let mut plain = PlainText::new(rt.alloc(), &letters).expect(&rt, "a text");
+    assert!(rt; are_split(&mut text, &mut plain));
+    for row in &EDITS_OF_PIECES {
+        let are_alike = are_edited(&mut text, &mut plain, *row, &letters);
+        assert!(rt; are_alike && are_same(&rt, &text, &plain));
+    }
+}
+
 /// As many letters `a` as a text may have, and so many more.
 fn letters(alloc: Global, more: usize) -> Result<String, AllocError> {
-    let row = "a".repeat(alloc, 4096)?;
-    let mut letters = row.repeat(alloc, 4096)?;
-    let rest = "a".repeat(alloc, more)?;
-    letters.push_str(&rest)?;
+    let mut letters = "a".repeat(alloc, 16_777_216)?;
+    letters.push_str(&"a".repeat(alloc, more)?)?;
     Ok(letters)
 }
 
 /// A text that is as long as a text may be stays where one character more is put in, and takes one
 /// in place of another.
 #[test]
-fn longest_plain_text(rt: HostRuntime) -> Result<(), Fail> {
-    let letters = letters(rt.alloc(), 0)?;
-    let mut text = PlainText::new(rt.alloc(), &letters)?;
-    assert_eq!(rt; edited(&mut text, 16_777_216, 0, "a"), "TooLong");
-    assert_eq!(rt; text.len(), 16_777_216);
-    assert!(rt; is_all::<PlainText, Brand>(&rt, &text, 'a', Blank::new(1)));
-    assert_eq!(rt; edited(&mut text, 0, 1, "b"), "Ok");
-    assert_eq!(rt; text.len(), 16_777_216);
-    Ok(())
+fn longest_plain_text(rt: HostRuntime) {
+    let letters = letters(rt.alloc(), 0).expect(&rt, "letters");
+    let mut text = PlainText::new(rt.alloc(), &letters).expect(&rt, "a text");
+    assert!(rt; answers(&mut text, 16_777_216, 0, "a", "TooLong"));
+    assert!(rt; is_text(&rt, &text, &letters));
+    assert!(rt; answers(&mut text, 0, 1, "b", ""));
+    assert!(rt; text.len() == 16_777_216);
+}
+
+/// Whether letters make no text, since they are too many.
+fn are_too_many(alloc: Global, letters: &str) -> bool {
+    matches!(PlainText::new(alloc, letters), Err(TextErr::TooManyChars))
+        && matches!(Pieces::new(alloc, letters), Err(TextErr::TooManyChars))
+}
+
+/// Whether the bytes of a file make no text, since they spell too many characters.
+fn spells_too_many(alloc: Global, raw: &Raw) -> bool
+    requires { length raw.now ≤ most_bytes }
+{
+    matches!(PlainText::from_raw(alloc, raw), Err(RawErr::TooManyChars))
+        && matches!(Pieces::from_raw(alloc, raw), Err(RawErr::TooManyChars))
 }
 
 /// One character more is no text.
 #[test]
-fn too_many_characters(rt: HostRuntime) -> Result<(), Fail> {
-    let alloc = rt.alloc();
-    let letters = letters(alloc, 1)?;
-    assert!(rt; matches!(PlainText::new(alloc, &letters), Err(TextErr::TooManyChars)));
-    assert!(rt; matches!(Pieces::new(alloc, &letters), Err(TextErr::TooManyChars)));
+fn too_many_characters(rt: HostRuntime) {
+    let letters = letters(rt.alloc(), 1).expect(&rt, "letters");
     assert!(rt; letters.len() == 16_777_217);
-    let raw = raw_of(alloc, letters.as_bytes())?;
-    assert!(rt; matches!(PlainText::from_raw(alloc, &raw), Err(RawErr::TooManyChars)));
-    assert!(rt; matches!(Pieces::from_raw(alloc, &raw), Err(RawErr::TooManyChars)));
-    Ok(())
+    let raw = raw_of(rt.alloc(), &letters).expect(&rt, "bytes");
+    assert!(rt; are_too_many(rt.alloc(), &letters) && spells_too_many(rt.alloc(), &raw));
 }
 
 /// Where a place lies in a unit; none past the text's end.
@@ -299,54 +269,68 @@ fn index_at<T: UnitText>(text: &T, unit: Unit, o: u32) -> Option<Index> {
     Some(text.index(unit, o))
 }
 
-/// Whether each place of a text lies at these offsets, and is found there.
-fn lie_at<T: UnitText>(text: &T, unit: Unit, offsets: &[u32]) -> bool {
+/// Whether a place lies at an offset, and is found there.
+fn lies_at<T: UnitText>(text: &T, unit: Unit, at: u32, offset: u32) -> bool {
+    offset_at(text, unit, at) == Some(offset)
+        && index_at(text, unit, offset) == Some(Index { at, whole: true })
+}
+
+/// A unit, and the offset of each place in it.
+const OFFSETS: [(Unit, [u32; 7]); 3] = [
+    (Unit::Chars, [0, 1, 2, 3, 4, 5, 6]),
+    (Unit::Utf8, [0, 3, 4, 6, 7, 11, 12]),
+    (Unit::Utf16, [0, 1, 2, 3, 4, 6, 7]),
+];
+
+/// Offsets that are inside of the character after a place.
+const INSIDE: [(Unit, u32, u32); 7] = [
+    (Unit::Utf8, 1, 0),
+    (Unit::Utf8, 2, 0),
+    (Unit::Utf8, 5, 2),
+    (Unit::Utf8, 8, 4),
+    (Unit::Utf8, 9, 4),
+    (Unit::Utf8, 10, 4),
+    (Unit::Utf16, 5, 4),
+];
+
+/// Whether each place lies where it must.
+fn are_offsets<T: UnitText>(text: &T, unit: Unit, offsets: &[u32]) -> bool {
     let mut at = 0;
     for offset in offsets {
-        let index = Index { at, whole: true };
-        if offset_at(text, unit, at) != Some(*offset)
-            || index_at(text, unit, *offset) != Some(index)
-        {
+        if !lies_at(text, unit, at, *offset) {
             return false;
         }
         at = at.saturating_add(1);
     }
+    at == text.len().saturating_add(1)
+}
+
+/// Whether no place is found at the offsets inside of characters, and none past the end.
+fn are_inside<T: UnitText>(text: &T) -> bool {
+    for row in &INSIDE {
+        let (unit, offset, at) = *row;
+        if index_at(text, unit, offset) != Some(Index { at, whole: false }) {
+            return false;
+        }
+    }
     true
 }
 
-/// Whether an offset is inside of the character behind this place.
-fn is_inside<T: UnitText>(text: &T, unit: Unit, o: u32, at: u32) -> bool {
-    index_at(text, unit, o) == Some(Index { at, whole: false })
-}
-
-/// A U+FEFF, a letter with a combining mark, a lone CR, a character past U+FFFF and a letter.
-fn check_units<T: UnitText>(rt: &impl Abort, text: &T) {
-    assert!(rt; lie_at(text, Unit::Chars, &[0, 1, 2, 3, 4, 5, 6]));
-    assert!(rt; lie_at(text, Unit::Utf8, &[0, 3, 4, 6, 7, 11, 12]));
-    assert!(rt; lie_at(text, Unit::Utf16, &[0, 1, 2, 3, 4, 6, 7]));
-    for (o, at) in [(1, 0), (2, 0), (5, 2), (8, 4), (9, 4), (10, 4)] {
-        assert!(rt; is_inside(text, Unit::Utf8, o, at), "at {o}");
-    }
-    assert!(rt; is_inside(text, Unit::Utf16, 5, 4));
-    for (unit, end) in [(Unit::Chars, 6), (Unit::Utf8, 12), (Unit::Utf16, 7)] {
-        assert_eq!(rt; index_at(text, unit, end + 1), None);
-        assert_eq!(rt; index_at(text, unit, u32::MAX), None);
-    }
-}
-
+/// A U+FEFF, a letter with a combining mark, a lone CR, a character past U+FFFF and a letter. Places
+/// are right whichever units the text is ready for.
 #[test]
-fn places_in_units(rt: HostRuntime) -> Result<(), Fail> {
-    let alloc = rt.alloc();
+fn places_in_units(rt: HostRuntime) {
     let text = "\u{feff}e\u{301}\r\u{1d11e}b";
-    let mut plain = PlainText::new(alloc, text)?;
-    let mut pieces = Pieces::new(alloc, text)?;
-    for unit in [Unit::Chars, Unit::Utf8, Unit::Utf16] {
-        plain.make_ready(unit);
-        check_units(&rt, &plain);
-        pieces.make_ready(unit);
-        check_units(&rt, &pieces);
+    let mut plain = PlainText::new(rt.alloc(), text).expect(&rt, "a text");
+    let mut pieces = Pieces::new(rt.alloc(), text).expect(&rt, "a text");
+    for row in &OFFSETS {
+        plain.make_ready(row.0);
+        pieces.make_ready(row.0);
+        for row in &OFFSETS {
+            assert!(rt; are_offsets(&plain, row.0, &row.1) && are_offsets(&pieces, row.0, &row.1));
+        }
+        assert!(rt; are_inside(&plain) && are_inside(&pieces));
     }
-    Ok(())
 }
 
 /// How much so many times `a`, U+00E9 and U+1D11E take.
@@ -362,61 +346,50 @@ fn thirds_take(unit: Unit, count: u32) -> u32
 }
 
 /// Whether the end of each 45th character of `a`, U+00E9, U+1D11E in turn lies where it must, in a
-/// text of 90,000 of them, where so many characters that take so much of the unit were put in
-/// front.
-fn thirds<T: UnitText>(text: &T, unit: Unit, front: (u32, u32)) -> bool
-    requires { (front.0 < 1000) × (front.1 < 1000) }
+/// text of 90,000 of them after so many characters that take so much of the unit.
+fn are_thirds<T: UnitText>(text: &T, unit: Unit, before: (u32, u32)) -> bool
+    requires { (before.0 < 1000) × (before.1 < 1000) }
 {
     for k in 0..2001 {
-        let at = front.0 + 45 * k;
-        let offset = front.1 + thirds_take(unit, 15 * k);
-        if index_at(text, unit, offset) != Some(Index { at, whole: true })
-            || offset_at(text, unit, at) != Some(offset)
-        {
+        let offset = before.1 + thirds_take(unit, 15 * k);
+        if !lies_at(text, unit, before.0 + 45 * k, offset) {
             return false;
         }
     }
     true
 }
 
-/// A long text that is ready for a unit, at first and after edits at its start, behind which so
-/// much stands in front.
-fn check_long<T: UnitText>(rt: &impl Abort, text: &mut T, unit: Unit, one: u32, two: u32)
+/// Whether places are right in a long text that is ready for a unit, and after edits at its start,
+/// by which one and two characters that take so much stand before the others.
+fn is_right<T: UnitText>(text: &mut T, unit: Unit, one: u32, two: u32) -> bool
     requires { (one < 1000) × (two < 1000) }
 {
     text.make_ready(unit);
-    assert!(rt; thirds(text, unit, (0, 0)));
-    assert_eq!(rt; edited(text, 0, 0, "\u{1d11e}"), "Ok");
-    assert!(rt; thirds(text, unit, (1, one)));
-    assert_eq!(rt; edited(text, 0, 1, "\u{e9}b"), "Ok");
-    assert!(rt; thirds(text, unit, (2, two)));
+    are_thirds(text, unit, (0, 0))
+        && answers(text, 0, 0, "\u{1d11e}", "")
+        && are_thirds(text, unit, (1, one))
+        && answers(text, 0, 1, "\u{e9}b", "")
+        && are_thirds(text, unit, (2, two))
 }
 
-/// A text of 90,000 characters.
-fn long_string(alloc: Global) -> Result<String, AllocError> {
-    let mut string = String::new(alloc);
-    for _ in 0..30_000 {
-        string.push_str("a\u{e9}\u{1d11e}")?;
+/// A unit, and how much one U+1D11E takes in it, and how much U+00E9 and `b`.
+const STARTS: [(Unit, u32, u32); 3] = [
+    (Unit::Chars, 1, 2),
+    (Unit::Utf8, 4, 3),
+    (Unit::Utf16, 2, 2),
+];
+
+#[test]
+fn places_in_long_texts(rt: HostRuntime) {
+    let thirds = "a\u{e9}\u{1d11e}"
+        .repeat(rt.alloc(), 30_000)
+        .expect(&rt, "thirds");
+    for row in &STARTS {
+        let (unit, one, two) = *row;
+        assert!(rt; one < 1000 && two < 1000);
+        let mut plain = PlainText::new(rt.alloc(), &thirds).expect(&rt, "a text");
+        assert!(rt; is_right(&mut plain, unit, one, two));
+        let mut pieces = Pieces::new(rt.alloc(), &thirds).expect(&rt, "a text");
+        assert!(rt; is_right(&mut pieces, unit, one, two));
     }
-    Ok(string)
-}
-
-#[test]
-fn places_in_long_plain_texts(rt: HostRuntime) -> Result<(), Fail> {
-    let alloc = rt.alloc();
-    let string = long_string(alloc)?;
-    check_long(&rt, &mut PlainText::new(alloc, &string)?, Unit::Chars, 1, 2);
-    check_long(&rt, &mut PlainText::new(alloc, &string)?, Unit::Utf8, 4, 3);
-    check_long(&rt, &mut PlainText::new(alloc, &string)?, Unit::Utf16, 2, 2);
-    Ok(())
-}
-
-#[test]
-fn places_in_long_pieces(rt: HostRuntime) -> Result<(), Fail> {
-    let alloc = rt.alloc();
-    let string = long_string(alloc)?;
-    check_long(&rt, &mut Pieces::new(alloc, &string)?, Unit::Chars, 1, 2);
-    check_long(&rt, &mut Pieces::new(alloc, &string)?, Unit::Utf8, 4, 3);
-    check_long(&rt, &mut Pieces::new(alloc, &string)?, Unit::Utf16, 2, 2);
-    Ok(())
 }

@@ -1,6 +1,6 @@
 //! Measures calls that the program `rbbi` can't show alone.
 //!
-//! `PART FILE ROUNDS` makes one call so many times and prints what came of the last one, so that
+//! `PART FILE ROUNDS` makes one call so many times and prints the result of the last one, so that
 //! the times of two numbers of rounds give that of one call. README.md has the parts.
 #![tactic(auto)]
 
@@ -32,7 +32,7 @@ fn read<R: std::rt::Files + Alloc>(
     }
 }
 
-/// Makes the call that the words name, with a counter of its own.
+/// Makes the call that the arguments ask for, with a counter of its own.
 fn run<L: Ledger>(rt: &HostRuntime, words: &Vec<String>, blank: Blank) -> Option<u64>
     requires name { blank.name ≡ L.name }
     requires parts { blank.parts ≡ L.parts }

@@ -1,5 +1,6 @@
 -- Files that are added for properties that are built in.
-use Rattle.std.proofs.Common.{◌≡◌, ℕ, ◌<◌, Bool, true, false, ◌||◌, List, [], ◌∷◌, ◌++◌, Some, bytes_eq, get_or, refl, sym, ap, subst, ◌∙◌, append_assoc, arith, Result, Ok, Err, OnOk, inl, inr, ◌+◌}
+use Rattle.std.proofs.Common.{◌≡◌, ℕ, ◌<◌, ◌+◌, Bool, true, false, ◌||◌, List, [], ◌∷◌, ◌++◌, Some, bytes_eq, get_or, refl, sym, ap, subst, ◌∙◌}
+use Rattle.std.proofs.Common.{append_assoc, arith, Result, Ok, Err, OnOk, inl, inr}
 use Rattle.std.specs.Result.{OnErr}
 use Rattle.std.specs.List.{All}
 use Rattle.std.proofs.lemmas.Bool.{cases_lt}
@@ -51,7 +52,7 @@ either_way (Err e) P Q R h k f g = g k
 pub AddsBuiltIn-none : (files : List File) → AddsBuiltIn files files
 AddsBuiltIn-none files = record { added = []; whole = sym (append-nil files); built_in = All-nil (IsBuiltIn files) }
 
--- a file that is added behind others is one behind the first
+-- a file that is added after these files could be added after the first of them
 IsBuiltIn-before : (old added : List File) (file : File) → IsBuiltIn (old ++ added) file → IsBuiltIn old file
 IsBuiltIn-before old added file h = record {
   property = h.property;

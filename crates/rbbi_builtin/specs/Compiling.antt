@@ -6,7 +6,7 @@ use Rattle.rbbi_compile.specs.declared.error.CompileErr.{CompileErr}
 use Rattle.rbbi_compile.specs.Tables.{CompilesTo, HasFault}
 use Rattle.rbbi_builtin.specs.Filling.{IsFilled}
 
--- the table is compiled from the text with the files, and with what is built in behind them
+-- the table is compiled from the text with the files, and with what is built in after them
 abbrev pub CompilesOver : List File → Bool → List ℕ → Table → Type 0
 CompilesOver files ignored x table = (all : List File) × IsFilled x files all × CompilesTo all ignored x table
 

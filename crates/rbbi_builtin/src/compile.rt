@@ -15,8 +15,8 @@ use std::alloc::Global;
 /// for whose name there is none, what is built in. Where `ignored` holds, `$dictionary` is a
 /// variable like others.
 ///
-/// The text has at most 100,663,296 bytes. Refuses the first fault of the text, or want of memory.
-/// The files are as before.
+/// The text has at most 100,663,296 bytes. Refuses the first fault of the text, or fails if memory
+/// runs out. The files are as before.
 pub fn compile_over(
     alloc: Global,
     text: &str,
@@ -35,7 +35,7 @@ pub fn compile_over(
     table
 }
 
-/// The same, with what was added left behind the files.
+/// The same, with what was added left after the files.
 fn filled_table(
     alloc: Global,
     text: &str,

@@ -16,7 +16,7 @@ use std::alloc::{AllocError, Global};
 ///
 /// General_Category and Script get none: a look-up has them, with their groups, without files. The
 /// text has at most 100,663,296 bytes. If it has a fault in its tokens, nothing is added. If memory
-/// runs out, some are, behind those that were there.
+/// runs out, some are, after those that were there.
 pub fn add_asked_for(alloc: Global, text: &str, files: &mut PropTable) -> Result<(), AllocError>
     requires { length text.now ≤ most_bytes }
     ensures filled { OnOk result (IsFilled (chars text.now) files.old files.new) }

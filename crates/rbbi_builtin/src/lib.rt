@@ -7,8 +7,6 @@ mod fill;
 mod names;
 mod near;
 mod property;
-#[cfg(test)]
-mod tests;
 
 pub use compile::compile_over;
 pub use fill::add_asked_for;

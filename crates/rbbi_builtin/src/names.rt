@@ -1,9 +1,9 @@
 //! The names of the values of properties: those of Unicode's PropertyValueAliases.txt.
 //!
-//! Each text stands at the number that stands for its value in the runs of the kit's table, and has
-//! the value's names with spaces between. The first is the one that the property's file has.
-//! Names that differ only in case, spaces, `_` and `-` are one name here. A value that no code point
-//! has isn't listed, as E_Base of Grapheme_Cluster_Break, or Katakana_Or_Hiragana of Script.
+//! The index of a text is the number of its value in the runs of the kit's table. The text has the
+//! value's names with spaces between. The first is the one that the property's file has. Names that
+//! differ only in case, spaces, `_` and `-` are one name here. A value that no code point has isn't
+//! listed, as E_Base of Grapheme_Cluster_Break, or Katakana_Or_Hiragana of Script.
 
 /// The values of General_Category, without its groups.
 #[rattlefmt::skip]

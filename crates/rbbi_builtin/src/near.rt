@@ -1,4 +1,4 @@
-//! What is told of a property that rules ask for and that isn't found.
+//! What is reported of a property that rules ask for and that isn't found.
 ghost use Rattle.std.specs.Prelude.{◌≤◌, length};
 ghost use Rattle.rbbi_text.specs.Bytes.{most_bytes};
 
@@ -31,7 +31,7 @@ pub struct Advice {
     pub near: Vec<&'static str>,
 }
 
-/// At most this many names are told.
+/// At most this many names are reported.
 const MOST: usize = 3;
 
 /// At most this many edits lead to a name that is near.

@@ -84,7 +84,7 @@ impl Property {
         }
     }
 
-    /// The numbers of the values that code points have, as runs: the code point behind a run times
+    /// The numbers of the values that code points have, as runs: the code point after a run times
     /// 2,048, plus the number.
     pub fn runs(self) -> &'static [u32]
         ensures { IsRunsOf result.now (number_of self) }

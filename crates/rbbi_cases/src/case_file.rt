@@ -3,7 +3,7 @@ use crate::error::CaseErr;
 use crate::setting::{Entry, Setting};
 use std::alloc::Global;
 
-/// A case: the line of its name, from 1, its name, and what the lines behind it say.
+/// A case: the line of its name, from 1, its name, and what the lines after it say.
 #[derive(Drop)]
 pub(crate) struct Case {
     pub(crate) line: usize,
@@ -19,7 +19,7 @@ pub(crate) struct CaseFile {
     pub(crate) cases: Vec<Case>,
     /// The line that is being read, from 1.
     pub(crate) line: usize,
-    /// The entry that the next line may go on with, and its line.
+    /// The entry that the next line may continue, and its line.
     last: Option<(usize, Entry)>,
     /// What the case that is being read says so far: each key with its name.
     heads: Vec<String>,
@@ -54,7 +54,7 @@ impl CaseFile {
         if let Some((b'|', text)) = without_spaces(line).split_first() {
             return match &mut self.last {
                 Some((_, entry)) if entry.has_lines() => entry.push_line(text),
-                _ => Err(CaseErr::Wrong("nothing to go on with")),
+                _ => Err(CaseErr::Wrong("nothing to continue")),
             };
         }
         self.end_entry()?;
@@ -109,7 +109,7 @@ fn without_spaces(line: &[u8]) -> &[u8] {
     let mut rest = line;
     for _ in 0..line.len() {
         match rest.split_first() {
-            Some((b' ', behind)) => rest = behind,
+            Some((b' ', after)) => rest = after,
             _ => break,
         }
     }

@@ -3,7 +3,7 @@ use crate::error::CaseErr;
 use rbbi_text::{append, decimal, hexadecimal};
 use std::alloc::Global;
 
-/// The text before the first of this byte, and the text behind it.
+/// The text before the first of this byte, and the text after it.
 pub(crate) fn split_once(text: &[u8], byte: u8) -> Option<(&[u8], &[u8])> {
     for (at, found) in text.iter().enumerate() {
         if *found == byte {
@@ -19,13 +19,13 @@ pub(crate) fn unescaped(alloc: Global, text: &[u8]) -> Result<Vec<u8>, CaseErr> 
     let mut bytes = Vec::new(alloc);
     let mut rest = text;
     for _ in 0..text.len() {
-        let Some((before, behind)) = split_once(rest, b'%') else {
+        let Some((before, after)) = split_once(rest, b'%') else {
             break;
         };
         append(before, &mut bytes)?;
-        rest = match behind.split_first() {
+        rest = match after.split_first() {
             Some((b'{', braced)) => push_braced(alloc, braced, &mut bytes)?,
-            _ => push_byte(behind, &mut bytes)?,
+            _ => push_byte(after, &mut bytes)?,
         };
     }
     append(rest, &mut bytes)?;
@@ -39,26 +39,26 @@ pub(crate) fn unescaped_string(alloc: Global, text: &[u8]) -> Result<String, Cas
     Ok(String::from_str(alloc, text)?)
 }
 
-/// Appends the byte of two hexadecimal digits, and gives what stands behind them.
-fn push_byte<'a>(behind: &'a [u8], bytes: &mut Vec<u8>) -> Result<&'a [u8], CaseErr> {
-    if behind.len() < 2 {
-        return Err(CaseErr::Wrong("no escape behind %"));
+/// Appends the byte of two hexadecimal digits, and gives what follows them.
+fn push_byte<'a>(after: &'a [u8], bytes: &mut Vec<u8>) -> Result<&'a [u8], CaseErr> {
+    if after.len() < 2 {
+        return Err(CaseErr::Wrong("no escape after %"));
     }
-    let Some(byte) = hexadecimal(&behind[..2], 2, 2, 255) else {
-        return Err(CaseErr::Wrong("no escape behind %"));
+    let Some(byte) = hexadecimal(&after[..2], 2, 2, 255) else {
+        return Err(CaseErr::Wrong("no escape after %"));
     };
     bytes.push(byte as u8)?;
-    Ok(&behind[2..])
+    Ok(&after[2..])
 }
 
-/// Appends what an escape in braces stands for, and gives what stands behind it.
+/// Appends what an escape in braces stands for, and gives what follows it.
 fn push_braced<'a>(
     alloc: Global,
-    behind: &'a [u8],
+    after: &'a [u8],
     bytes: &mut Vec<u8>,
 ) -> Result<&'a [u8], CaseErr> {
-    let Some((inner, rest)) = split_once(behind, b'}') else {
-        return Err(CaseErr::Wrong("no } behind %{"));
+    let Some((inner, rest)) = split_once(after, b'}') else {
+        return Err(CaseErr::Wrong("no } after %{"));
     };
     match split_once(inner, b'*') {
         Some((times, piece)) => push_times(alloc, times, piece, bytes)?,
@@ -80,11 +80,11 @@ fn push_times(
     let mut one = Vec::new(alloc);
     let mut rest = piece;
     for _ in 0..piece.len() {
-        let Some((before, behind)) = split_once(rest, b'%') else {
+        let Some((before, after)) = split_once(rest, b'%') else {
             break;
         };
         append(before, &mut one)?;
-        rest = push_byte(behind, &mut one)?;
+        rest = push_byte(after, &mut one)?;
     }
     append(rest, &mut one)?;
     for _ in 0..times {

@@ -1,38 +1,79 @@
-//! A case is run, and what differs is told.
+//! A case is run, and what differs is reported.
 ghost use Rattle.std.specs.Prelude.{◌≡◌, ◌<◌};
 
 use crate::setting::Setting;
 use rbbi_io::{MemFiles, MemSink};
+use rbbi_segment::{Surroundings, System, segment};
 use rbbi_text::{Steps, append};
 use rbbi_tool::rbbi;
 use std::alloc::{AllocError, Global};
+use std::io;
 use std::marker::Brand;
 use std::sync::ledger::{Blank, Ledger};
 
-/// A run over files and an output in memory.
+/// A run over files, an input and outputs in memory.
 #[derive(Drop)]
 pub(crate) struct Run {
     alloc: Global,
+    /// Whether the program is `segment`, and not `rbbi`.
+    is_segment: bool,
     words: Vec<String>,
     files: MemFiles,
+    input: Vec<u8>,
     out: MemSink,
+    errors: MemSink,
     status: u8,
 }
 
-/// The status of the top call with a counter of its own.
+/// No terminal is anywhere.
+const SURROUNDINGS: Surroundings = Surroundings {
+    output_is_terminal: false,
+    errors_are_on_terminal: false,
+    no_color: false,
+};
+
+/// A system in which `.` is a folder, other files that can't be read aren't there, and nobody knows
+/// why the output fails.
+#[derive(Clone, Copy)]
+struct Memory;
+
+impl System for Memory {
+    fn unread(&self, name: &str) -> Option<io::Error> {
+        let number = if name == "." { 21 } else { 2 };
+        Some(io::Error::from_raw_os_error(number))
+    }
+
+    fn unwritten(&self) -> Option<io::Error> {
+        None
+    }
+}
+
+/// The status of the program's top call.
+fn status_by<L: Ledger>(alloc: Global, run: &mut Run, steps: &mut Steps<L>) -> u8 {
+    if !run.is_segment {
+        return rbbi(alloc, &run.words, &mut run.files, &mut run.out, steps);
+    }
+    segment(
+        alloc,
+        &run.words,
+        SURROUNDINGS,
+        &Memory,
+        &mut run.files,
+        &mut run.input.as_slice(),
+        &mut run.out,
+        &mut run.errors,
+        steps,
+    )
+}
+
+/// The same with a counter of its own.
 fn status_of<L: Ledger>(rt: &HostRuntime, run: &mut Run, blank: Blank) -> u8
     requires name { blank.name ≡ L.name }
     requires parts { blank.parts ≡ L.parts }
     requires some { 0 < blank.parts }
 {
     let mut steps = Steps::<L>::new(rt, blank);
-    rbbi(
-        rt.alloc(),
-        &run.words,
-        &mut run.files,
-        &mut run.out,
-        &mut steps,
-    )
+    status_by(rt.alloc(), run, &mut steps)
 }
 
 impl Run {
@@ -40,9 +81,12 @@ impl Run {
     fn new(alloc: Global) -> Run {
         Run {
             alloc,
+            is_segment: false,
             words: Vec::new(alloc),
             files: MemFiles::new(alloc),
+            input: Vec::new(alloc),
             out: MemSink::new(alloc),
+            errors: MemSink::new(alloc),
             status: 0,
         }
     }
@@ -67,6 +111,7 @@ impl Run {
     /// Prepares what a line says of words, files and faults.
     fn prepare(&mut self, setting: &Setting) -> Result<(), AllocError> {
         match setting {
+            Setting::Segment => self.is_segment = true,
             Setting::Args(words) => {
                 self.words.clear();
                 for word in words {
@@ -76,6 +121,7 @@ impl Run {
             Setting::File(name, bytes) => self.files.add(name.as_str(), bytes.as_slice())?,
             Setting::Change(name, at, bytes) => self.change(name.as_str(), *at, bytes.as_slice())?,
             Setting::Cut(name, len) => self.cut(name.as_str(), *len)?,
+            Setting::Input(bytes) => append(bytes, &mut self.input)?,
             Setting::FailCall(number) => self.files.fail_at(*number)?,
             Setting::FailPut(number) => self.out.fail_at(*number)?,
             Setting::PutAtMost(most) if *most >= 1 => self.out.at_most(*most),
@@ -93,9 +139,9 @@ impl Run {
     /// From a place on the file holds these bytes.
     fn change(&mut self, name: &str, at: usize, new: &[u8]) -> Result<(), AllocError> {
         let mut bytes = first(self.held(name), at).to_vec(self.alloc)?;
-        let behind = bytes.len().saturating_add(new.len());
+        let after = bytes.len().saturating_add(new.len());
         append(new, &mut bytes)?;
-        append(behind_first(self.held(name), behind), &mut bytes)?;
+        append(after_first(self.held(name), after), &mut bytes)?;
         self.files.add(name, bytes.as_slice())
     }
 
@@ -111,14 +157,35 @@ impl Run {
     ) -> Result<Vec<String>, AllocError> {
         let mut found = Vec::new(self.alloc);
         let mut status = 0;
-        let mut output: &[u8] = &[];
+        let mut output: Option<&[u8]> = Some(&[]);
+        let mut errors: &[u8] = &[];
         for setting in for_all.iter().chain(own) {
             match setting {
                 Setting::Status(wanted) => status = *wanted,
-                Setting::Output(bytes) => output = bytes.as_slice(),
-                other => self.push_difference(other, &mut found)?,
+                Setting::Output(bytes) => output = Some(bytes.as_slice()),
+                Setting::Bytes(_) => output = None,
+                Setting::Errors(bytes) => errors = bytes.as_slice(),
+                _ => {}
             }
+            self.push_difference(setting, &mut found)?;
         }
+        self.push_end(
+            status,
+            output.unwrap_or(self.out.taken()),
+            errors,
+            &mut found,
+        )?;
+        Ok(found)
+    }
+
+    /// What differs from the wanted status, output and standard error.
+    fn push_end(
+        &self,
+        status: u32,
+        output: &[u8],
+        errors: &[u8],
+        found: &mut Vec<String>,
+    ) -> Result<(), AllocError> {
         if u32::from(self.status) != status {
             let answered = self.status;
             found.push(format!(in self.alloc; "status {answered} and not {status}")?)?;
@@ -126,10 +193,13 @@ impl Run {
         if self.out.taken() != output {
             found.push(unlike(self.alloc, "output", self.out.taken(), output)?)?;
         }
-        Ok(found)
+        if self.errors.taken() != errors {
+            found.push(unlike(self.alloc, "standard error", self.errors.taken(), errors)?)?;
+        }
+        Ok(())
     }
 
-    /// What differs from what a line wants, but for the status and the output.
+    /// What differs from what a line wants of files, calls, puts and bytes.
     fn push_difference(
         &self,
         setting: &Setting,
@@ -142,6 +212,10 @@ impl Run {
             }
             Setting::Absent(name) if self.files.get(name.as_str()).is_some() => {
                 found.push(format!(in self.alloc; "{name} is there")?)?;
+            }
+            Setting::Bytes(wanted) if self.out.taken().len() != *wanted => {
+                let bytes = self.out.taken().len();
+                found.push(format!(in self.alloc; "{bytes} bytes of output and not {wanted}")?)?;
             }
             Setting::Calls(wanted) if self.files.calls() != *wanted => {
                 let calls = self.files.calls();
@@ -160,7 +234,7 @@ impl Run {
 /// The most bytes that are shown of a list that differs.
 const SHOWN: usize = 300;
 
-/// What is told of two lists of bytes that differ.
+/// How two lists of bytes that differ are reported.
 fn unlike(alloc: Global, what: &str, found: &[u8], wanted: &[u8]) -> Result<String, AllocError> {
     let found = first(found, SHOWN).escape_ascii();
     let wanted = first(wanted, SHOWN).escape_ascii();
@@ -174,7 +248,7 @@ fn first(bytes: &[u8], len: usize) -> &[u8] {
     bytes
 }
 
-fn behind_first(bytes: &[u8], len: usize) -> &[u8] {
+fn after_first(bytes: &[u8], len: usize) -> &[u8] {
     if len < bytes.len() {
         return &bytes[len..];
     }

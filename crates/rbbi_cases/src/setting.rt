@@ -4,10 +4,12 @@ use crate::escapes::{split_once, unescaped, unescaped_string};
 use rbbi_text::decimal;
 use std::alloc::Global;
 
-/// What a line says, alone or with the lines that go on with it.
+/// What a line says, alone or with the lines that continue it.
 #[derive(Drop)]
 pub(crate) enum Setting {
-    /// The words of the command line.
+    /// The run is of `segment`, and not of `rbbi`.
+    Segment,
+    /// The arguments.
     Args(Vec<String>),
     /// A file, and what it holds.
     File(String, Vec<u8>),
@@ -15,10 +17,16 @@ pub(crate) enum Setting {
     Change(String, usize, Vec<u8>),
     /// A file holds no more than so many bytes.
     Cut(String, usize),
+    /// The standard input.
+    Input(Vec<u8>),
     /// The exit status.
     Status(u32),
     /// The output.
     Output(Vec<u8>),
+    /// The number of bytes of the output, which isn't compared then.
+    Bytes(usize),
+    /// The standard error.
+    Errors(Vec<u8>),
     /// What a file holds afterwards.
     Written(String, Vec<u8>),
     /// A file that isn't there afterwards.
@@ -35,7 +43,7 @@ pub(crate) enum Setting {
     Puts(u64),
 }
 
-/// A line and those that go on with it: the key, the name of a file, and the text.
+/// A line and those that continue it: the key, the name of a file, and the text.
 #[derive(Drop)]
 pub(crate) struct Entry {
     /// All before the colon.
@@ -59,18 +67,21 @@ impl Entry {
             head: String::from_str(alloc, str::from_utf8(head)?)?,
             key: String::from_str(alloc, str::from_utf8(key)?)?,
             name,
-            text: behind_space(text)?.to_vec(alloc)?,
+            text: after_space(text)?.to_vec(alloc)?,
         })
     }
 
     /// Whether a line that begins with `|` may go on with it.
     pub(crate) fn has_lines(&self) -> bool {
-        matches!(self.key.as_str(), "file" | "written" | "out" | "part")
+        matches!(
+            self.key.as_str(),
+            "file" | "written" | "input" | "out" | "part" | "errors"
+        )
     }
 
     /// Whether it may stand before the first case.
     pub(crate) fn is_for_all(&self) -> bool {
-        matches!(self.key.as_str(), "args" | "file" | "status")
+        matches!(self.key.as_str(), "program" | "args" | "file" | "status")
     }
 
     /// Whether a case may say it more than once.
@@ -78,10 +89,10 @@ impl Entry {
         matches!(self.key.as_str(), "change" | "fail-call" | "fail-put")
     }
 
-    /// Goes on with a line.
+    /// Continues it with a line.
     pub(crate) fn push_line(&mut self, line: &[u8]) -> Result<(), CaseErr> {
         self.text.push(b'\n')?;
-        self.text.extend_from_slice(behind_space(line)?)?;
+        self.text.extend_from_slice(after_space(line)?)?;
         Ok(())
     }
 
@@ -95,12 +106,12 @@ impl Entry {
     }
 }
 
-/// The text behind the space that it begins with. There may be neither.
-fn behind_space(text: &[u8]) -> Result<&[u8], CaseErr> {
+/// The text after the space that it begins with. There may be neither.
+fn after_space(text: &[u8]) -> Result<&[u8], CaseErr> {
     match text.split_first() {
         None => Ok(text),
         Some((b' ', rest)) => Ok(rest),
-        Some(_) => Err(CaseErr::Wrong("a space is wanted behind : and |")),
+        Some(_) => Err(CaseErr::Wrong("a space is wanted after : and |")),
     }
 }
 
@@ -139,11 +150,11 @@ fn of_text(alloc: Global, key: &str, text: &[u8]) -> Result<Setting, CaseErr> {
     match key {
         "args" => Ok(Setting::Args(words(alloc, text)?)),
         "part" => Ok(Setting::Output(unescaped(alloc, text)?)),
-        "out" => {
-            let mut lines = unescaped(alloc, text)?;
-            lines.push(b'\n')?;
-            Ok(Setting::Output(lines))
-        }
+        "out" => Ok(Setting::Output(lines(alloc, text)?)),
+        "errors" => Ok(Setting::Errors(lines(alloc, text)?)),
+        "input" => Ok(Setting::Input(unescaped(alloc, text)?)),
+        "program" if text == b"segment".as_slice() => Ok(Setting::Segment),
+        "bytes" => Ok(Setting::Bytes(number(text)? as usize)),
         "absent" => Ok(Setting::Absent(unescaped_name(alloc, text)?)),
         "status" => Ok(Setting::Status(number(text)?)),
         "fail-call" => Ok(Setting::FailCall(number(text)? as u64)),
@@ -153,6 +164,13 @@ fn of_text(alloc: Global, key: &str, text: &[u8]) -> Result<Setting, CaseErr> {
         "puts" => Ok(Setting::Puts(number(text)? as u64)),
         _ => Err(CaseErr::Wrong("no such key")),
     }
+}
+
+/// Lines, each of which ends with LF.
+fn lines(alloc: Global, text: &[u8]) -> Result<Vec<u8>, CaseErr> {
+    let mut lines = unescaped(alloc, text)?;
+    lines.push(b'\n')?;
+    Ok(lines)
 }
 
 /// The words of a text with one space between them. An empty text has none.

@@ -1,143 +1,151 @@
 //! Rule files whose positions were worked out by hand.
-ghost use Rattle.std.specs.Prelude.{◌≡◌, ◌<◌, IfOk, length};
+ghost use Rattle.std.specs.Prelude.{◌≡◌, ◌<◌, length};
 
+use crate::forms::{after, after_number};
 use crate::resolved::rules_in;
 use rbbi_cats::partition;
 use rbbi_positions::{Positions, positions};
-use std::alloc::{AllocError, Global};
+use std::alloc::Global;
 use std::process::Abort;
-use std::test::Fail;
 
 /// The positions of the rules of a short file, and the number of their categories.
-fn positions_in(alloc: Global, text: &str) -> Result<(Positions, u16), Fail>
+fn positions_in(rt: &impl Abort, alloc: Global, text: &str) -> (Positions, u16)
     requires { length text.now < 1000 }
-    ensures { IfOk result (λ found. found.0.categories ≡ found.1) }
+    ensures { result.0.categories ≡ result.1 }
 {
-    let rules = rules_in(alloc, text)?;
-    let cats = partition(alloc, &rules)?;
-    let found = positions(alloc, &rules, &cats)?;
-    Ok((found, cats.count()))
+    let rules = rules_in(rt, alloc, text);
+    let cats = partition(alloc, &rules).expect(rt, text);
+    let found = positions(alloc, &rules, &cats).expect(rt, text);
+    (found, cats.count())
 }
 
-/// Adds a number.
-fn show_number(shown: &mut String, alloc: Global, number: u32) -> Result<(), AllocError> {
-    let text = format!(in alloc; "{number}")?;
-    shown.push_str(text.as_str())
+/// What follows the marks of a leaf: `^` if it is first, `$` if it is last, `/` if it is last of the
+/// front, then `:`.
+fn after_marks<'a>(form: &'a [u8], found: &Positions, leaf: u32) -> Option<&'a [u8]>
+    requires { leaf < found.now.leaves }
+{
+    let mut rest = after_number(form, leaf)?;
+    if found.is_first(leaf) {
+        rest = after(rest, b'^')?;
+    }
+    if found.is_last(leaf) {
+        rest = after(rest, b'$')?;
+    }
+    if found.is_front_last(leaf) {
+        rest = after(rest, b'/')?;
+    }
+    after(rest, b':')
 }
 
-/// Adds a position: `^` where it is first, `$` where it is last, `/` where it is last of the front,
-/// then behind `:` the categories that it reads, and behind `>` the positions that follow it.
-fn show_leaf(
-    shown: &mut String,
-    alloc: Global,
+/// What follows the categories that a leaf reads, and `>`.
+fn after_categories<'a>(
+    form: &'a [u8],
     found: &Positions,
     leaf: u32,
     categories: u16,
-) -> Result<(), AllocError>
+) -> Option<&'a [u8]>
     requires leaf { leaf < found.now.leaves }
     requires categories { found.now.categories ≡ categories }
 {
-    show_number(shown, alloc, leaf)?;
-    let marks = [
-        (found.is_first(leaf), "^"),
-        (found.is_last(leaf), "$"),
-        (found.is_front_last(leaf), "/"),
-    ];
-    for (is_marked, mark) in marks {
-        if is_marked {
-            shown.push_str(mark)?;
-        }
-    }
-    shown.push_str(":")?;
+    let mut rest = form;
     for category in 0..categories {
         if found.reads(leaf, category) {
-            show_number(shown, alloc, category as u32)?;
+            rest = after_number(rest, u32::from(category))?;
         }
     }
-    shown.push_str(">")?;
-    for next in 0..found.leaves() {
-        if found.follows(leaf, next) {
-            show_number(shown, alloc, next)?;
-        }
-    }
-    Ok(())
+    after(rest, b'>')
 }
 
-/// The positions in a short form, with spaces between them.
-fn show(alloc: Global, found: &Positions, categories: u16) -> Result<String, AllocError>
+/// What follows the positions that follow a leaf, and a space.
+fn after_followers<'a>(form: &'a [u8], found: &Positions, leaf: u32) -> Option<&'a [u8]>
+    requires { leaf < found.now.leaves }
+{
+    let mut rest = form;
+    for next in 0..found.leaves() {
+        if found.follows(leaf, next) {
+            rest = after_number(rest, next)?;
+        }
+    }
+    after(rest, b' ')
+}
+
+/// Whether the positions have this short form, with a space after each.
+fn are_shown(found: &Positions, categories: u16, form: &[u8]) -> bool
     requires { found.now.categories ≡ categories }
 {
-    let mut shown = String::new(alloc);
+    let mut rest = form;
     for leaf in 0..found.leaves() {
-        if leaf > 0 {
-            shown.push_str(" ")?;
-        }
-        show_leaf(&mut shown, alloc, found, leaf, categories)?;
+        let Some(marked) = after_marks(rest, found, leaf) else {
+            return false;
+        };
+        let Some(read) = after_categories(marked, found, leaf, categories) else {
+            return false;
+        };
+        let Some(followed) = after_followers(read, found, leaf) else {
+            return false;
+        };
+        rest = followed;
     }
-    Ok(shown)
+    rest.is_empty()
 }
 
 const MARKS: [(&str, &str); 16] = [
-    ("a;", "0^$/:1>"),
-    ("ab;", "0^:1>1 1$/:2>"),
-    ("a|b;", "0^$/:1> 1^$/:2>"),
-    ("a?;", "0^$/:1>"),
-    ("a*;", "0^$/:1>0"),
-    ("a+;", "0^$/:1>0"),
-    (".a;", "0^:12>1 1$/:2>"),
-    ("(ab)?c;", "0^:1>1 1:2>2 2^$/:3>"),
-    ("a(b|c)*d;", "0^:1>123 1:2>123 2:3>123 3$/:4>"),
-    ("ab / c;", "0^:1>1 1/:2>2 2$:3>"),
-    ("ab?/c?d;", "0^/:1>123 1/:2>23 2:3>3 3$:4>"),
-    ("(a?b?)+;", "0^$/:1>01 1^$/:2>01"),
-    ("(a|b)*abb;", "0^:1>012 1^:2>012 2^:1>3 3:2>4 4$/:2>"),
-    ("((a*b)+c?)*;", "0^:1>01 1^$/:2>012 2$/:3>01"),
-    ("[a-c] [b-d];", "0^:12>1 1$/:23>"),
-    ("a; bc;", "0^$/:1> 1^:2>2 2$/:3>"),
+    ("a;", "0^$/:1> "),
+    ("ab;", "0^:1>1 1$/:2> "),
+    ("a|b;", "0^$/:1> 1^$/:2> "),
+    ("a?;", "0^$/:1> "),
+    ("a*;", "0^$/:1>0 "),
+    ("a+;", "0^$/:1>0 "),
+    (".a;", "0^:12>1 1$/:2> "),
+    ("(ab)?c;", "0^:1>1 1:2>2 2^$/:3> "),
+    ("a(b|c)*d;", "0^:1>123 1:2>123 2:3>123 3$/:4> "),
+    ("ab / c;", "0^:1>1 1/:2>2 2$:3> "),
+    ("ab?/c?d;", "0^/:1>123 1/:2>23 2:3>3 3$:4> "),
+    ("(a?b?)+;", "0^$/:1>01 1^$/:2>01 "),
+    ("(a|b)*abb;", "0^:1>012 1^:2>012 2^:1>3 3:2>4 4$/:2> "),
+    ("((a*b)+c?)*;", "0^:1>01 1^$/:2>012 2$/:3>01 "),
+    ("[a-c] [b-d];", "0^:12>1 1$/:23> "),
+    ("a; bc;", "0^$/:1> 1^:2>2 2$/:3> "),
 ];
 
 #[test]
-fn marks(rt: HostRuntime) -> Result<(), Fail> {
+fn marks(rt: HostRuntime) {
     for row in &MARKS {
-        let (text, want) = *row;
+        let (text, form) = *row;
         assert!(rt; text.len() < 1000);
-        let (found, categories) = positions_in(rt.alloc(), text)?;
-        let shown = show(rt.alloc(), &found, categories)?;
-        assert_eq!(rt; shown.as_str(), want, "in {text:?}");
+        let (found, categories) = positions_in(&rt, rt.alloc(), text);
+        assert!(rt;
+            are_shown(&found, categories, form.as_bytes()),
+            "in {text:?}"
+        );
     }
-    Ok(())
 }
 
-/// The positions of `!!chain; a; ^b {7}; c/d {3};`.
-fn positions_of_rules(rt: &impl Abort, alloc: Global) -> Result<Positions, Fail> {
-    let (found, _categories) = positions_in(alloc, "!!chain; a; ^b {7}; c/d {3};")?;
-    assert_eq!(rt; found.leaves(), 4);
-    assert_eq!(rt; found.rules(), 3);
-    Ok(found)
-}
+/// The leaves of `!!chain; a; ^b {7}; c/d {3};` and their rules.
+const LEAVES: [(u32, u32); 4] = [(0, 0), (1, 1), (2, 2), (3, 2)];
+
+/// The rules: whether each is chained into, its tag and its look-ahead rule.
+const RULES: [(u32, bool, Option<u32>, Option<u32>); 3] = [
+    (0, true, None, None),
+    (1, false, Some(7), None),
+    (2, true, Some(3), Some(0)),
+];
 
 #[test]
-fn rules_of_leaves(rt: HostRuntime) -> Result<(), Fail> {
-    let found = positions_of_rules(&rt, rt.alloc())?;
-    for (leaf, rule) in [(0, 0), (1, 1), (2, 2), (3, 2)] {
-        assert!(rt; leaf < found.leaves());
-        assert_eq!(rt; found.rule(leaf), rule, "at {leaf}");
+fn rules(rt: HostRuntime) {
+    let (found, _categories) = positions_in(&rt, rt.alloc(), "!!chain; a; ^b {7}; c/d {3};");
+    assert!(rt; found.leaves() == 4 && found.rules() == 3);
+    for row in &LEAVES {
+        assert!(rt; row.0 < found.leaves());
+        assert!(rt; found.rule(row.0) == row.1, "of leaf {}", row.0);
     }
-    Ok(())
-}
-
-#[test]
-fn rules(rt: HostRuntime) -> Result<(), Fail> {
-    let found = positions_of_rules(&rt, rt.alloc())?;
-    for (rule, chained_into, tag, slash) in [
-        (0, true, None, None),
-        (1, false, Some(7), None),
-        (2, true, Some(3), Some(0)),
-    ] {
+    for row in &RULES {
+        let rule = row.0;
         assert!(rt; rule < found.rules());
-        assert_eq!(rt; found.chained_into(rule), chained_into, "of {rule}");
-        assert_eq!(rt; found.tag(rule), tag, "of {rule}");
-        assert_eq!(rt; found.slash(rule), slash, "of {rule}");
+        assert!(rt; found.chained_into(rule) == row.1, "of {rule}");
+        assert!(rt;
+            found.tag(rule) == row.2 && found.slash(rule) == row.3,
+            "of {rule}"
+        );
     }
-    Ok(())
 }

@@ -1,10 +1,15 @@
-//! Tests of the way from a rule file to positions, by public calls: nothing but tests.
+//! Tests of the way from a rule file to positions, and of the properties that are built in, by public
+//! calls: nothing but tests.
 //!
 //! A crate with tests of its own is proved twice, so those of these crates stand here.
 #![tactic(auto)]
 
 #[cfg(test)]
+mod built_in;
+#[cfg(test)]
 mod categories;
+#[cfg(test)]
+mod forms;
 #[cfg(test)]
 mod leaf_positions;
 #[cfg(test)]

@@ -1,19 +1,18 @@
 //! Property files that are refused, and names and values that are alike.
 use rbbi_props::{PropErr, PropTable, are_alike, push_common_form};
-use std::test::Fail;
 
 /// After a refusal the table is as before.
 #[test]
-fn refusals(rt: HostRuntime) -> Result<(), Fail> {
+fn refusals(rt: HostRuntime) {
     let mut table = PropTable::new(rt.alloc());
-    table.add("P", b"0041;V")?;
+    table.add("P", b"0041;V").expect(&rt, "a file");
     assert!(rt; matches!(table.add("P", b"0042;V\n0043 V"), Err(PropErr::BadRow(2))));
     assert!(rt; matches!(table.add("P", b"0042;V\n\xFF"), Err(PropErr::NotUtf8(7))));
-    let found = table.lookup(rt.alloc(), "p", Some("v"))?;
+    let found = table
+        .lookup(rt.alloc(), "p", Some("v"))
+        .expect(&rt, "a set");
     assert!(rt; matches!(&found, Some(set) if set.has(0x41) && !set.has(0x42)));
-    assert_eq!(rt; PropErr::Memory.label(), "Memory");
-    assert_eq!(rt; PropErr::Memory.place(), None);
-    Ok(())
+    assert!(rt; PropErr::Memory.label() == "Memory" && PropErr::Memory.place().is_none());
 }
 
 const SPELLINGS: [(&str, Option<&str>, &str, Option<&str>, bool); 14] = [
@@ -42,21 +41,18 @@ const SPELLINGS: [(&str, Option<&str>, &str, Option<&str>, bool); 14] = [
 ];
 
 #[test]
-fn spellings(rt: HostRuntime) -> Result<(), Fail> {
+fn spellings(rt: HostRuntime) {
     for row in &SPELLINGS {
         let (name, value, other, other_value, want) = *row;
-        assert_eq!(rt;
-            are_alike(name, value, other, other_value),
-            want,
+        assert!(rt;
+            are_alike(name, value, other, other_value) == want,
             "{name} {other}"
         );
-        assert_eq!(rt;
-            are_alike(other, other_value, name, value),
-            want,
+        assert!(rt;
+            are_alike(other, other_value, name, value) == want,
             "{other} {name}"
         );
     }
-    Ok(())
 }
 
 const COMMON_FORMS: [(&str, &str); 5] = [
@@ -68,12 +64,10 @@ const COMMON_FORMS: [(&str, &str); 5] = [
 ];
 
 #[test]
-fn common_forms(rt: HostRuntime) -> Result<(), Fail> {
+fn common_forms(rt: HostRuntime) {
     for row in &COMMON_FORMS {
-        let (text, want) = *row;
-        let mut key = String::from_str(rt.alloc(), "+")?;
-        push_common_form(&mut key, text)?;
-        assert_eq!(rt; key.as_str(), want, "{text}");
+        let mut key = String::from_str(rt.alloc(), "+").expect(&rt, "a string");
+        push_common_form(&mut key, row.0).expect(&rt, row.0);
+        assert!(rt; key.as_str() == row.1, "{}", row.0);
     }
-    Ok(())
 }

@@ -1,5 +1,5 @@
 //! The rules of short files.
-ghost use Rattle.std.specs.Prelude.{◌≤◌, IfOk, length};
+ghost use Rattle.std.specs.Prelude.{◌≤◌, length};
 ghost use Rattle.rbbi_model.specs.Rules.{AreLawful};
 ghost use Rattle.rbbi_resolve.specs.RuleLists.{rules_of};
 
@@ -9,16 +9,16 @@ use rbbi_resolve::{Rules, resolve};
 use rbbi_text::count_characters;
 use rbbi_tree::parse;
 use std::alloc::Global;
-use std::test::Fail;
+use std::process::Abort;
 
 /// The rules of a text that has no fault.
-pub(crate) fn rules_in(alloc: Global, text: &str) -> Result<Rules, Fail>
+pub(crate) fn rules_in(rt: &impl Abort, alloc: Global, text: &str) -> Rules
     requires { length text.now ≤ 1000000 }
-    ensures { IfOk result (λ rules. AreLawful (rules_of rules)) }
+    ensures { AreLawful (rules_of result) }
 {
     let end = count_characters(text);
-    let tokens = lex(alloc, text)?;
-    let statements = parse(alloc, &tokens, end)?;
+    let tokens = lex(alloc, text).expect(rt, text);
+    let statements = parse(alloc, &tokens, end).expect(rt, text);
     let props = PropTable::new(alloc);
-    Ok(resolve(alloc, &statements, end, &props, false)?)
+    resolve(alloc, &statements, end, &props, false).expect(rt, text)
 }

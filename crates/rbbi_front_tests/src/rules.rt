@@ -1,57 +1,46 @@
-//! The rules of a file: what is counted of them, and the tree of one.
+//! The rules of a file: their sets, and the tree of one.
+use crate::forms::{after, after_number};
 use crate::resolved::rules_in;
 use rbbi_resolve::Tree;
-use std::alloc::{AllocError, Global};
-use std::test::Fail;
 
-#[test]
-fn counts(rt: HostRuntime) -> Result<(), Fail> {
-    let rules = rules_in(rt.alloc(), "$v = [ab] x; $v $v | $v+; b / c;")?;
-    assert_eq!(rt; rules.len(), 2);
-    assert_eq!(rt; rules.slashes(), 1);
-    assert_eq!(rt; rules.leaves(), 8);
-    assert_eq!(rt; rules.sets().len(), 4);
-    Ok(())
-}
-
-/// The shape of a tree, with the numbers of the sets of its leaves.
+/// What follows the short form of a tree: the numbers of the sets of its leaves, its parts between
+/// brackets with a dot after each, and `*` before what is repeated.
 #[cycle(shape)]
-fn shape(alloc: Global, tree: &Tree) -> Result<String, AllocError> {
+fn after_tree<'a>(form: &'a [u8], tree: &Tree) -> Option<&'a [u8]> {
     match tree {
-        Tree::Leaf(number) => format!(in alloc; "{number}"),
-        Tree::Seq(parts) => shape_of_parts(alloc, "(", ")", &parts.items),
-        Tree::Alt(parts) => shape_of_parts(alloc, "[", "]", &parts.items),
-        Tree::Rep(_, part) => {
-            let inner = shape(alloc, part)?;
-            format!(in alloc; "*{inner}", inner = inner.as_str())
-        }
+        Tree::Leaf(number) => after_number(form, *number),
+        Tree::Seq(parts) => after(after_parts(after(form, b'(')?, &parts.items)?, b')'),
+        Tree::Alt(parts) => after(after_parts(after(form, b'[')?, &parts.items)?, b']'),
+        Tree::Rep(_, part) => after_tree(after(form, b'*')?, part),
     }
 }
 
 #[cycle(shape)]
-fn shape_of_parts(
-    alloc: Global,
-    open: &str,
-    close: &str,
-    parts: &Vec<Tree>,
-) -> Result<String, AllocError> {
-    let mut text = String::from_str(alloc, open)?;
+fn after_parts<'a>(form: &'a [u8], parts: &Vec<Tree>) -> Option<&'a [u8]> {
+    let mut rest = form;
     for part in parts {
-        let inner = shape(alloc, part)?;
-        text.push_str(inner.as_str())?;
-        text.push_str(".")?;
+        rest = after(after_tree(rest, part)?, b'.')?;
     }
-    text.push_str(close)?;
-    Ok(text)
+    Some(rest)
 }
 
+const TEXT: &str = "$s = [ab]; $v = $s (x | 'yz')?; $v $v;";
+
 #[test]
-fn trees(rt: HostRuntime) -> Result<(), Fail> {
-    let text = "$s = [ab]; $v = $s (x | 'yz')?; $v $v;";
-    assert!(rt; text.len() < 1000);
-    let rules = rules_in(rt.alloc(), text)?;
-    assert_eq!(rt; rules.len(), 1);
-    let shown = shape(rt.alloc(), &rules.get(0).front)?;
-    assert_eq!(rt; shown.as_str(), "((0.*[1.(2.3.).].).(0.*[1.(2.3.).].).)");
-    Ok(())
+fn trees(rt: HostRuntime) {
+    assert!(rt; TEXT.len() < 1000);
+    let rules = rules_in(&rt, rt.alloc(), TEXT);
+    assert!(rt; rules.len() == 1);
+    let form = b"((0.*[1.(2.3.).].).(0.*[1.(2.3.).].).)";
+    assert!(rt; after_tree(form, &rules.get(0).front) == Some(&[]));
+}
+
+const SETS: &str = "$v = [ab] x; $v $v | $v+; b / c;";
+
+#[test]
+fn sets(rt: HostRuntime) {
+    assert!(rt; SETS.len() < 1000);
+    let rules = rules_in(&rt, rt.alloc(), SETS);
+    assert!(rt; rules.len() == 2 && rules.slashes() == 1);
+    assert!(rt; rules.leaves() == 8 && rules.sets().len() == 4);
 }

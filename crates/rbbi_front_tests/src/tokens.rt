@@ -1,6 +1,5 @@
 //! The tokens of one text with each kind of token.
 use rbbi_lex::{LexErr, TokenKind, lex};
-use std::test::Fail;
 
 /// A name, an assignment and a rule.
 const TEXT: &str = "$a1 = 'it''s'; !!chain;\n^$a1 [b-\\u0063] / \\P{sc=Lu} # a\n.{7};";
@@ -47,22 +46,18 @@ const TOKENS: [(&str, u32); 18] = [
 ];
 
 #[test]
-fn tokens(rt: HostRuntime) -> Result<(), Fail> {
+fn tokens(rt: HostRuntime) {
     assert!(rt; TEXT.len() < 100);
-    let tokens = lex(rt.alloc(), TEXT)?;
-    assert_eq!(rt; tokens.len(), TOKENS.len());
+    let tokens = lex(rt.alloc(), TEXT).expect(&rt, TEXT);
+    assert!(rt; tokens.len() == TOKENS.len());
     for (i, row) in TOKENS.iter().enumerate() {
-        let (wanted, place) = *row;
         assert!(rt; i < tokens.len());
         let token = tokens.get(i);
-        assert_eq!(rt; kind(&token.kind), wanted, "at {place}");
-        assert_eq!(rt; token.place, place, "of {wanted}");
+        assert!(rt;
+            kind(&token.kind) == row.0 && token.place == row.1,
+            "of {}",
+            row.0
+        );
     }
-    Ok(())
-}
-
-#[test]
-fn labels(rt: HostRuntime) {
-    assert_eq!(rt; LexErr::Memory.label(), "Memory");
-    assert_eq!(rt; LexErr::Memory.place(), None);
+    assert!(rt; LexErr::Memory.label() == "Memory" && LexErr::Memory.place().is_none());
 }

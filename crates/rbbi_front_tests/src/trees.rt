@@ -1,22 +1,10 @@
 //! The statements of one text with each kind of statement.
-ghost use Rattle.std.specs.Prelude.{◌<◌, length};
-
-use rbbi_lex::{LexErr, lex};
+use rbbi_lex::lex;
 use rbbi_text::count_characters;
-use rbbi_tree::{Statement, Statements, TreeErr, parse};
-use std::alloc::Global;
-use std::test::Fail;
+use rbbi_tree::{Statement, parse};
 
-/// The statements of a short text, or its fault.
-fn parse_text(alloc: Global, text: &str) -> Result<Result<Statements, TreeErr>, LexErr>
-    requires { length text.now < 1000 }
-{
-    let tokens = lex(alloc, text)?;
-    Ok(parse(alloc, &tokens, count_characters(text)))
-}
-
-/// A statement with the places of what it is told by, in a short form.
-fn is_told(statement: &Statement, number: usize) -> bool {
+/// Whether a statement with this number has the parts and places that it must have.
+fn is_right(statement: &Statement, number: usize) -> bool {
     match statement {
         Statement::Nothing => number == 3,
         Statement::Control { name, place } => {
@@ -40,24 +28,16 @@ fn is_told(statement: &Statement, number: usize) -> bool {
     }
 }
 
-#[test]
-fn statements(rt: HostRuntime) -> Result<(), Fail> {
-    let found = parse_text(rt.alloc(), "!!chain; $a = b|c; ^x* / [y] {7};;")??;
-    assert_eq!(rt; found.len(), 4);
-    for i in 0..found.len() {
-        assert!(rt; is_told(found.get(i), i), "statement {i}");
-    }
-    Ok(())
-}
+/// A control, an assignment, a rule and an empty statement.
+const TEXT: &str = "!!chain; $a = b|c; ^x* / [y] {7};;";
 
 #[test]
-fn faults(rt: HostRuntime) -> Result<(), Fail> {
-    match parse_text(rt.alloc(), "a|b; (c")? {
-        Ok(_) => assert!(rt; false),
-        Err(fault) => {
-            assert_eq!(rt; fault.label(), "Syntax");
-            assert_eq!(rt; fault.place(), Some(7));
-        }
+fn statements(rt: HostRuntime) {
+    assert!(rt; TEXT.len() < 100);
+    let tokens = lex(rt.alloc(), TEXT).expect(&rt, TEXT);
+    let found = parse(rt.alloc(), &tokens, count_characters(TEXT)).expect(&rt, TEXT);
+    assert!(rt; found.len() == 4);
+    for i in 0..found.len() {
+        assert!(rt; is_right(found.get(i), i), "statement {i}");
     }
-    Ok(())
 }

@@ -1,4 +1,4 @@
-//! Tests of tables, their differences and replies, by public calls: nothing but tests.
+//! Tests of tables and their differences, by public calls: nothing but tests.
 //!
 //! A crate with tests of its own is proved twice, so those of these crates stand here.
 #![tactic(auto)]
@@ -7,7 +7,5 @@
 mod differences;
 #[cfg(test)]
 mod samples;
-#[cfg(test)]
-mod scripts;
 #[cfg(test)]
 mod tables;

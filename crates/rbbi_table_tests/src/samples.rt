@@ -61,24 +61,25 @@ fn rows_of(alloc: Global, given: &[(u16, u32, u16)]) -> Result<RowList, AllocErr
     Ok(rows)
 }
 
-fn parts_of(alloc: Global, sample: &Sample) -> Result<Parts, AllocError> {
-    Ok(Parts {
+fn parts_of(rt: &impl Abort, alloc: Global, sample: &Sample) -> Parts {
+    Parts {
         categories: sample.categories,
         slashes: sample.slashes,
-        ranges: ranges_of(alloc, sample.ranges)?,
-        lists: lists_of(alloc, sample.lists)?,
-        rows: rows_of(alloc, sample.rows)?,
-        cells: CellList::from_vec(sample.cells.to_vec(alloc)?),
-        safe: ByteList::from_vec(sample.safe.to_vec(alloc)?),
-    })
+        ranges: ranges_of(alloc, sample.ranges).expect(rt, "ranges"),
+        lists: lists_of(alloc, sample.lists).expect(rt, "lists"),
+        rows: rows_of(alloc, sample.rows).expect(rt, "rows"),
+        cells: CellList::from_vec(sample.cells.to_vec(alloc).expect(rt, "cells")),
+        safe: ByteList::from_vec(sample.safe.to_vec(alloc).expect(rt, "safe pairs")),
+    }
 }
 
+/// The table of these parts, or why they make none.
 pub(crate) fn table_of(rt: &impl Abort, alloc: Global, sample: &Sample) -> Result<Table, TableErr> {
-    let parts = parts_of(alloc, sample)?;
+    let parts = parts_of(rt, alloc, sample);
     let width = parts.categories as usize;
     assert!(rt; parts.rows.len() < 65536);
     let cells = u64::from(parts.rows.len() as u32) * u64::from(parts.categories);
-    assert_eq!(rt; parts.cells.len() as u64, cells);
-    assert_eq!(rt; parts.safe.len(), (width * width + 7) / 8);
+    assert!(rt; parts.cells.len() as u64 == cells);
+    assert!(rt; parts.safe.len() == (width * width + 7) / 8);
     Table::from_parts(alloc, &parts)
 }

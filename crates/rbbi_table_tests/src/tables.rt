@@ -2,13 +2,10 @@
 ghost use Rattle.std.specs.Prelude.{◌≡◌, ◌<◌};
 
 use crate::samples::{A, Sample, table_of};
-use rbbi_table::{FrontPlaces, Table};
+use rbbi_table::{FrontPlaces, Table, TableErr};
 use rbbi_text::{Chars, PlainText, Steps};
-use std::alloc::Global;
 use std::marker::Brand;
-use std::process::Abort;
 use std::sync::ledger::{Blank, Ledger};
-use std::test::Fail;
 
 /// The table of the rules `a/b;` and `a/[bc];`: after `ab` both are completed.
 const BOTH: Sample<'static> = Sample {
@@ -32,225 +29,197 @@ const MANY: Sample<'static> = Sample {
     safe: &[0xFF, 0x01],
 };
 
-/// The searches from 0 on: for each the boundary, its list and the look end.
-fn searches<L: Ledger>(
-    rt: &HostRuntime,
+/// What a search finds: the boundary, the number of its list and the look end.
+type Finding = (u32, u16, u32);
+
+/// Whether the searches from 0 on find these, and then the end of the text.
+fn are_found<L: Ledger>(
+    host: &HostRuntime,
     table: &Table,
     text: &PlainText,
+    wanted: &[Finding],
     blank: Blank,
-) -> Result<Vec<u32>, Fail>
+) -> bool
     requires name { blank.name ≡ L.name }
     requires parts { blank.parts ≡ L.parts }
     requires some { 0 < blank.parts }
 {
-    let alloc = rt.alloc();
-    let mut steps = Steps::<L>::new(rt, blank);
-    let mut marks = FrontPlaces::new(alloc, table)?;
-    let mut found = Vec::new(alloc);
+    let mut steps = Steps::<L>::new(host, blank);
+    let Ok(mut marks) = FrontPlaces::new(host.alloc(), table) else {
+        return false;
+    };
     let mut at = 0;
-    for _ in 0..text.len() {
+    for finding in wanted {
         if at >= text.len() {
-            break;
+            return false;
         }
         let next = table.next(text, at, &mut marks, &mut steps);
+        if next.at != finding.0 || next.status != finding.1 || next.look != finding.2 {
+            return false;
+        }
         at = next.at;
-        found.push(next.at)?;
-        found.push(u32::from(next.status))?;
-        found.push(next.look)?;
     }
-    Ok(found)
+    at == text.len()
 }
 
-/// What the searches in a text find.
-fn found_in(host: &HostRuntime, table: &Table, text: &str) -> Result<Vec<u32>, Fail> {
-    let plain = PlainText::new(host.alloc(), text)?;
-    searches::<Brand>(host, table, &plain, Blank::new(1))
+/// The same, with a counter of its own.
+fn finds(host: &HostRuntime, table: &Table, text: &PlainText, wanted: &[Finding]) -> bool {
+    are_found::<Brand>(host, table, text, wanted, Blank::new(1))
 }
 
-/// Asserts that the searches in the table of these parts find what is wanted.
-fn finds(
-    rt: &impl Abort,
-    host: &HostRuntime,
-    sample: &Sample,
-    text: &str,
-    wanted: &[u32],
-) -> Result<(), Fail> {
-    let table = table_of(rt, host.alloc(), sample)?;
-    let found = found_in(host, &table, text)?;
-    assert_eq!(rt; found.as_slice(), wanted, "in {text:?}");
-    Ok(())
+const SEARCHES: [(Sample<'static>, &str, &[Finding]); 7] = [
+    (A, "ab", &[(1, 0, 2), (2, 0, 2)]),
+    (Sample { slashes: 1, ..A }, "ab", &[(1, 0, 2), (2, 0, 2)]),
+    (
+        Sample {
+            cells: &[0, 0, 0, 2, 0, 2],
+            ..A
+        },
+        "aab",
+        &[(2, 0, 3), (3, 0, 3)],
+    ),
+    (BOTH, "abac", &[(1, 1, 2), (2, 0, 2), (3, 0, 4), (4, 0, 4)]),
+    (BOTH, "aab", &[(1, 0, 2), (2, 1, 3), (3, 0, 3)]),
+    (MANY, "aaab", &[(3, 0, 4), (4, 0, 4)]),
+    (MANY, "aa", &[(1, 0, 3), (2, 0, 3)]),
+];
+
+#[test]
+fn searches(rt: HostRuntime) {
+    for row in &SEARCHES {
+        let table = table_of(&rt, rt.alloc(), &row.0).expect(&rt, "a table");
+        let text = PlainText::new(rt.alloc(), row.1).expect(&rt, "a text");
+        assert!(rt; finds(&rt, &table, &text, row.2), "in {:?}", row.1);
+    }
+}
+
+const REFUSED: [(Sample<'static>, &str); 11] = [
+    (
+        Sample {
+            ranges: &[(0, 0), (0x61, 0), (0x62, 0)],
+            ..A
+        },
+        "BadRanges",
+    ),
+    (
+        Sample {
+            ranges: &[(1, 0), (0x61, 1), (0x62, 0)],
+            ..A
+        },
+        "BadRanges",
+    ),
+    (
+        Sample {
+            lists: &[&[1]],
+            ..A
+        },
+        "BadLists",
+    ),
+    (
+        Sample {
+            cells: &[0, 0, 0, 3, 0, 0],
+            ..A
+        },
+        "BadRows",
+    ),
+    (
+        Sample {
+            rows: &[(0, 0, 0), (1, 0, 0), (1, 0, 0)],
+            ..A
+        },
+        "BadRows",
+    ),
+    (
+        Sample {
+            rows: &[(0, 0, 0), (0, 0, 0), (2, 0, 0)],
+            ..A
+        },
+        "BadRows",
+    ),
+    (
+        Sample {
+            slashes: 1,
+            rows: &[(0, 0, 0), (0, 0, 0), (2, 0, 0)],
+            ..A
+        },
+        "BadFronts",
+    ),
+    // The front of the second look-ahead rule doesn't end after `a`.
+    (
+        Sample {
+            rows: &[(0, 0, 0), (0, 0, 0), (0, 1, 0), (2, 0, 1), (3, 0, 0)],
+            ..BOTH
+        },
+        "BadFronts",
+    ),
+    (Sample { safe: &[0x0E], ..A }, "BadSafe"),
+    (Sample { safe: &[0x1F], ..A }, "BadSafe"),
+    // From row 1 alone each pair would be safe.
+    (
+        Sample {
+            safe: &[0xFF, 0xFF],
+            ..BOTH
+        },
+        "BadSafe",
+    ),
+];
+
+/// Whether no table was made, for a reason with this name.
+fn is_refused(answer: &Result<Table, TableErr>, label: &str) -> bool {
+    match answer {
+        Ok(_) => false,
+        Err(error) => error.label() == label && error.place().is_none(),
+    }
 }
 
 #[test]
-fn one_rule(rt: HostRuntime) -> Result<(), Fail> {
-    finds(&rt, &rt, &A, "ab", &[1, 0, 2, 2, 0, 2])?;
-    let unused = Sample { slashes: 1, ..A };
-    finds(&rt, &rt, &unused, "ab", &[1, 0, 2, 2, 0, 2])?;
-    let chained = Sample {
-        cells: &[0, 0, 0, 2, 0, 2],
-        ..A
-    };
-    finds(&rt, &rt, &chained, "aab", &[2, 0, 3, 3, 0, 3])
+fn parts_of_no_table(rt: HostRuntime) {
+    for row in &REFUSED {
+        assert!(rt;
+            is_refused(&table_of(&rt, rt.alloc(), &row.0), row.1),
+            "{}",
+            row.1
+        );
+    }
 }
 
 #[test]
-fn two_look_ahead_rules(rt: HostRuntime) -> Result<(), Fail> {
-    finds(
-        &rt,
-        &rt,
-        &BOTH,
-        "abac",
-        &[1, 1, 2, 2, 0, 2, 3, 0, 4, 4, 0, 4],
-    )?;
-    finds(&rt, &rt, &BOTH, "aab", &[1, 0, 2, 2, 1, 3, 3, 0, 3])
+fn parts_of_a_table(rt: HostRuntime) {
+    let table = table_of(&rt, rt.alloc(), &BOTH).expect(&rt, "a table");
+    assert!(rt; table.ranges() == 5 && table.lists() == 2);
+    assert!(rt; table.range(1).start == 0x61 && table.status_list(1) == [7].as_slice());
+    assert!(rt; table.categories() == 4 && table.slashes() == 2 && table.rows() == 5);
+    assert!(rt; table.row(2).fronts == 3 && table.step(2, 3) == 4);
+    assert!(rt; table.safe_count() == 14 && table.is_safe(1, 1) && !table.is_safe(1, 2));
 }
+
+/// A table, and characters with their categories by it.
+const CATEGORIES: [(Sample<'static>, &[(char, u16)]); 2] = [
+    (
+        Sample {
+            ranges: &[(0, 0), (0x10_FFFF, 1)],
+            ..A
+        },
+        &[('\u{10FFFF}', 1), ('\u{10FFFE}', 0), ('\0', 0)],
+    ),
+    (
+        A,
+        &[
+            ('`', 0),
+            ('a', 1),
+            ('b', 0),
+            ('\u{161}', 0),
+            ('\u{4E61}', 0),
+        ],
+    ),
+];
 
 #[test]
-fn a_front_that_ends_often(rt: HostRuntime) -> Result<(), Fail> {
-    finds(&rt, &rt, &MANY, "aaab", &[3, 0, 4, 4, 0, 4])?;
-    finds(&rt, &rt, &MANY, "aa", &[1, 0, 3, 2, 0, 3])
-}
-
-/// Whether these parts are refused by this name.
-fn is_refused(rt: &impl Abort, alloc: Global, sample: &Sample, label: &str) -> Result<(), Fail> {
-    match table_of(rt, alloc, sample) {
-        Ok(_) => assert!(rt; false),
-        Err(error) => {
-            assert_eq!(rt; error.label(), label);
-            assert_eq!(rt; error.place(), None);
+fn categories_in_two_steps(rt: HostRuntime) {
+    for row in &CATEGORIES {
+        let table = table_of(&rt, rt.alloc(), &row.0).expect(&rt, "a table");
+        for member in row.1 {
+            assert!(rt; table.category(member.0) == member.1, "of {:?}", member.0);
         }
     }
-    Ok(())
-}
-
-#[test]
-fn bad_ranges_and_lists(rt: HostRuntime) -> Result<(), Fail> {
-    let one_category = Sample {
-        ranges: &[(0, 0), (0x61, 0), (0x62, 0)],
-        ..A
-    };
-    is_refused(&rt, rt.alloc(), &one_category, "BadRanges")?;
-    let late_start = Sample {
-        ranges: &[(1, 0), (0x61, 1), (0x62, 0)],
-        ..A
-    };
-    is_refused(&rt, rt.alloc(), &late_start, "BadRanges")?;
-    let other_list = Sample {
-        lists: &[&[1]],
-        ..A
-    };
-    is_refused(&rt, rt.alloc(), &other_list, "BadLists")
-}
-
-#[test]
-fn bad_rows(rt: HostRuntime) -> Result<(), Fail> {
-    let no_row = Sample {
-        cells: &[0, 0, 0, 3, 0, 0],
-        ..A
-    };
-    is_refused(&rt, rt.alloc(), &no_row, "BadRows")?;
-    let early_end = Sample {
-        rows: &[(0, 0, 0), (1, 0, 0), (1, 0, 0)],
-        ..A
-    };
-    is_refused(&rt, rt.alloc(), &early_end, "BadRows")?;
-    let no_look_ahead = Sample {
-        rows: &[(0, 0, 0), (0, 0, 0), (2, 0, 0)],
-        ..A
-    };
-    is_refused(&rt, rt.alloc(), &no_look_ahead, "BadRows")
-}
-
-#[test]
-fn bad_fronts(rt: HostRuntime) -> Result<(), Fail> {
-    let no_front = Sample {
-        slashes: 1,
-        rows: &[(0, 0, 0), (0, 0, 0), (2, 0, 0)],
-        ..A
-    };
-    is_refused(&rt, rt.alloc(), &no_front, "BadFronts")?;
-    // The front of the second look-ahead rule doesn't end after `a`.
-    let one_front = Sample {
-        rows: &[(0, 0, 0), (0, 0, 0), (0, 1, 0), (2, 0, 1), (3, 0, 0)],
-        ..BOTH
-    };
-    is_refused(&rt, rt.alloc(), &one_front, "BadFronts")
-}
-
-#[test]
-fn bad_safe_pairs(rt: HostRuntime) -> Result<(), Fail> {
-    let too_few = Sample { safe: &[0x0E], ..A };
-    is_refused(&rt, rt.alloc(), &too_few, "BadSafe")?;
-    let too_many = Sample { safe: &[0x1F], ..A };
-    is_refused(&rt, rt.alloc(), &too_many, "BadSafe")?;
-    // From row 1 alone each pair would be safe.
-    let each = Sample {
-        safe: &[0xFF, 0xFF],
-        ..BOTH
-    };
-    is_refused(&rt, rt.alloc(), &each, "BadSafe")
-}
-
-fn check_ranges_and_lists(rt: &impl Abort, table: &Table) {
-    assert_eq!(rt; table.ranges(), 5);
-    assert_eq!(rt; table.range(1).start, 0x61);
-    assert_eq!(rt; table.lists(), 2);
-    assert_eq!(rt; table.status_list(1), [7].as_slice());
-}
-
-fn check_rows(rt: &impl Abort, table: &Table) {
-    assert_eq!(rt; table.categories(), 4);
-    assert_eq!(rt; table.slashes(), 2);
-    assert_eq!(rt; table.rows(), 5);
-    assert_eq!(rt; table.row(2).fronts, 3);
-    assert_eq!(rt; table.step(2, 3), 4);
-}
-
-fn check_safe_pairs(rt: &impl Abort, table: &Table) {
-    assert_eq!(rt; table.categories(), 4);
-    assert_eq!(rt; table.safe_count(), 14);
-    assert!(rt; table.is_safe(1, 1));
-    assert!(rt; !table.is_safe(1, 2));
-}
-
-#[test]
-fn parts_of_a_table(rt: HostRuntime) -> Result<(), Fail> {
-    let table = table_of(&rt, rt.alloc(), &BOTH)?;
-    check_ranges_and_lists(&rt, &table);
-    check_rows(&rt, &table);
-    check_safe_pairs(&rt, &table);
-    Ok(())
-}
-
-/// Whether the characters have these categories in the table of these parts.
-fn are_categories(
-    rt: &impl Abort,
-    alloc: Global,
-    sample: &Sample,
-    wanted: &[(char, u16)],
-) -> Result<(), Fail> {
-    let table = table_of(rt, alloc, sample)?;
-    for pair in wanted {
-        let (c, category) = *pair;
-        assert_eq!(rt; table.category(c), category);
-    }
-    Ok(())
-}
-
-#[test]
-fn categories_in_two_steps(rt: HostRuntime) -> Result<(), Fail> {
-    let last = Sample {
-        ranges: &[(0, 0), (0x10_FFFF, 1)],
-        ..A
-    };
-    let ends = [('\u{10FFFF}', 1), ('\u{10FFFE}', 0), ('\0', 0)];
-    are_categories(&rt, rt.alloc(), &last, &ends)?;
-    let around = [
-        ('`', 0),
-        ('a', 1),
-        ('b', 0),
-        ('\u{161}', 0),
-        ('\u{4E61}', 0),
-    ];
-    are_categories(&rt, rt.alloc(), &A, &around)
 }

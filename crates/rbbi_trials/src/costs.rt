@@ -5,7 +5,8 @@ use crate::questions::Question;
 use crate::searches::{Search, searches};
 use rbbi_table::Table;
 use rbbi_text::{Chars, PlainText, Steps};
-use std::alloc::{AllocError, Global};
+use std::alloc::Global;
+use std::process::Abort;
 use std::sync::ledger::Ledger;
 
 /// Whether a place is an anchor: 0, or where two characters of a safe pair begin.
@@ -51,42 +52,46 @@ fn read_up_to(searches: &[Search], place: u32) -> u64 {
 /// The cost of the first boundary past a place that lies before the end of the text: the walk back
 /// to the greatest anchor before the place, and the searches from there.
 fn forward_cost<L: Ledger>(
+    rt: &impl Abort,
     alloc: Global,
     table: &Table,
     text: &PlainText,
     place: u32,
     steps: &mut Steps<L>,
-) -> Result<u64, AllocError> {
+) -> u64 {
     let anchor = anchor_below(table, text, place, steps);
-    let searches = searches(alloc, table, text, anchor, steps)?;
+    let searches = searches(rt, alloc, table, text, anchor, steps);
     let walk = u64::from(place.saturating_sub(anchor)) + 1;
-    Ok(walk.saturating_add(read_up_to(&searches, place)))
+    walk.saturating_add(read_up_to(&searches, place))
 }
 
 /// Whether a try from an anchor is the last one: a boundary before the place lies two characters
 /// past the anchor or later, or the anchor is 0.
 fn settles(searches: &[Search], anchor: u32, place: u32) -> bool {
     let low = u64::from(anchor) + 2;
+    for search in searches {
+        if u64::from(search.at) >= low && search.at < place {
+            return true;
+        }
+    }
     anchor == 0
-        || searches
-            .iter()
-            .any(|search| u64::from(search.at) >= low && search.at < place)
 }
 
 /// The cost of the last boundary before a place from 1 to the length of the text: the walks back
 /// to the last try's anchor, and the searches of each try. Each try but the last is followed by one
 /// that lies at least twice as far back.
 fn back_cost<L: Ledger>(
+    rt: &impl Abort,
     alloc: Global,
     table: &Table,
     text: &PlainText,
     place: u32,
     steps: &mut Steps<L>,
-) -> Result<u64, AllocError> {
+) -> u64 {
     let mut anchor = anchor_below(table, text, place.saturating_sub(2), steps);
     let mut sum = 0u64;
     for _ in 0..place {
-        let searches = searches(alloc, table, text, anchor, steps)?;
+        let searches = searches(rt, alloc, table, text, anchor, steps);
         sum = sum.saturating_add(read_up_to(&searches, place.saturating_sub(1)));
         if settles(&searches, anchor, place) {
             break;
@@ -98,18 +103,19 @@ fn back_cost<L: Ledger>(
         anchor = anchor_below(table, text, high, steps);
     }
     let walk = u64::from(place.saturating_sub(anchor)) * 2;
-    Ok(walk.saturating_add(sum))
+    walk.saturating_add(sum)
 }
 
 /// The cost of a question from a cursor.
 pub(crate) fn cost<L: Ledger>(
+    rt: &impl Abort,
     alloc: Global,
     table: &Table,
     text: &PlainText,
     cursor: u32,
     question: Question,
     steps: &mut Steps<L>,
-) -> Result<u64, AllocError> {
+) -> u64 {
     let len = text.len();
     let end = len.saturating_sub(1);
     let forward = match question {
@@ -127,10 +133,10 @@ pub(crate) fn cost<L: Ledger>(
         _ => 0,
     };
     match forward {
-        _ if len == 0 => Ok(0),
-        Some(place) => forward_cost(alloc, table, text, place, steps),
-        None if back == 0 => Ok(0),
-        None if back > len => forward_cost(alloc, table, text, end, steps),
-        None => back_cost(alloc, table, text, back, steps),
+        _ if len == 0 => 0,
+        Some(place) => forward_cost(rt, alloc, table, text, place, steps),
+        None if back == 0 => 0,
+        None if back > len => forward_cost(rt, alloc, table, text, end, steps),
+        None => back_cost(rt, alloc, table, text, back, steps),
     }
 }

@@ -4,7 +4,7 @@ use rbbi_text::{Chars, EditErr, EditText, Steps};
 use std::cell::Cell;
 use std::sync::ledger::Ledger;
 
-/// A text, and the number of its characters that were read since it was told last.
+/// A text, and the number of its characters that were read since they were asked for last.
 #[derive(Drop)]
 pub(crate) struct Counted<T> {
     text: T,

@@ -1,16 +1,29 @@
-//! Numbers and texts that are drawn by a fixed seed.
+//! Numbers, texts and edits that are drawn by a fixed seed.
 
-use std::alloc::{AllocError, Global};
+use std::alloc::Global;
+use std::process::Abort;
 
-/// A generator of numbers.
+/// A generator of numbers, and the characters of the texts that it draws.
 #[derive(Clone, Copy)]
-pub(crate) struct Draws {
+pub(crate) struct Draws<'a> {
     state: u64,
+    alphabet: &'a [char],
 }
 
-impl Draws {
-    pub(crate) fn new(seed: u64) -> Draws {
-        Draws { state: seed }
+/// An edit: so many characters are taken away from a place on, and a string stands there then.
+#[derive(Drop)]
+pub(crate) struct Edit {
+    pub(crate) at: u32,
+    pub(crate) remove: u32,
+    pub(crate) insert: String,
+}
+
+impl<'a> Draws<'a> {
+    pub(crate) fn new(seed: u64, alphabet: &'a [char]) -> Draws<'a> {
+        Draws {
+            state: seed,
+            alphabet,
+        }
     }
 
     /// A number below 2^31.
@@ -25,19 +38,25 @@ impl Draws {
         (self.draw() % u64::from(limit.max(1))) as u32
     }
 
-    /// So many characters of an alphabet.
-    pub(crate) fn text(
-        &mut self,
-        alloc: Global,
-        alphabet: &[char],
-        len: u32,
-    ) -> Result<String, AllocError> {
-        let size = alphabet.len().min(1000) as u32;
+    /// So many characters of the alphabet.
+    pub(crate) fn text(&mut self, rt: &impl Abort, alloc: Global, len: u32) -> String {
+        let size = self.alphabet.len().min(1000) as u32;
         let mut text = String::new(alloc);
         for _ in 0..len {
             let number = self.below(size) as usize;
-            text.push(alphabet.get(number).copied().unwrap_or('?'))?;
+            let letter = self.alphabet.get(number).copied().unwrap_or('?');
+            text.push(letter).expect(rt, "a letter");
         }
-        Ok(text)
+        text
+    }
+
+    /// An edit at a place within a text of this length, at its end or past it.
+    pub(crate) fn edit(&mut self, rt: &impl Abort, alloc: Global, len: u32) -> Edit {
+        let most = if self.below(8) == 0 { 60 } else { 4 };
+        let at = self.below(len.saturating_add(3));
+        let remove = self.below(most);
+        let many = self.below(most);
+        let insert = self.text(rt, alloc, many);
+        Edit { at, remove, insert }
     }
 }

@@ -1,26 +1,26 @@
 //! Random scripts through filters, each reply held against that of a plain list of the boundaries
-//! that are reported, which is made anew for each command.
+//! that are reported, which is made again for each command.
 ghost use Rattle.std.specs.Prelude.{◌≡◌, ◌<◌};
 ghost use Rattle.rbbi_filter.specs.Closures.{AnswersEnds, Turns};
 
 use crate::draws::Draws;
 use crate::questions::{Boundary, Question, answer_on};
-use crate::rescans::{boundaries, status_at};
+use crate::rescans::{Rescans, mapped, status_at};
 use crate::tables::table_of;
 use rbbi_filter::{Abbreviations, CharMap, Filtered, Predicate, Tailored, Tailoring};
-use rbbi_script::{Command, Commands, perform_by, read_script};
+use rbbi_script::{Command, perform_by};
 use rbbi_session::{Session, Walk};
 use rbbi_table::Table;
-use rbbi_text::{Chars, Pieces, PlainText, Steps};
-use std::alloc::{AllocError, Global};
+use rbbi_text::{Pieces, Steps, Word, append, append_number};
+use std::alloc::Global;
 use std::marker::Brand;
+use std::process::Abort;
 use std::sync::ledger::{Blank, Ledger};
-use std::test::Fail;
 
 /// What stands between a text and its boundaries.
 #[derive(Clone, Copy)]
 enum Plain<'a> {
-    /// No boundary is reported behind one of these.
+    /// No boundary is reported after one of these.
     Hiding(&'a [&'a str]),
     /// The first of each pair is read as the second.
     Turning(&'a [(char, char)]),
@@ -64,41 +64,28 @@ const COMMANDS: u32 = 100;
 
 const LENGTH: u32 = 150;
 
-/// The most bytes that a script or a file of a filter has here.
-const MOST_BYTES: usize = 65_536;
-
-/// A line of a script, without its end.
-fn drawn_line(alloc: Global, draws: &mut Draws, alphabet: &[char]) -> Result<String, AllocError> {
+/// A drawn command.
+fn drawn_command(rt: &impl Abort, alloc: Global, draws: &mut Draws<'_>) -> Command {
     let place = draws.below(LENGTH + 20);
-    let most = if draws.below(8) == 0 { 70 } else { 4 };
-    let remove = draws.below(most);
-    let many = draws.below(most);
     match draws.below(14) {
-        0 => String::from_str(alloc, "first"),
-        1 => String::from_str(alloc, "last"),
-        2 | 3 => String::from_str(alloc, "next"),
-        4 | 5 => String::from_str(alloc, "previous"),
-        6 => String::from_str(alloc, "statuses"),
-        7 => String::from_str(alloc, "breaks"),
-        8 | 9 => format!(in alloc; "following {place}"),
-        10 | 11 => format!(in alloc; "preceding {place}"),
-        12 => format!(in alloc; "is {place}"),
+        0 => Command::First,
+        1 => Command::Last,
+        2 | 3 => Command::Next,
+        4 | 5 => Command::Previous,
+        6 => Command::Statuses,
+        7 => Command::Breaks,
+        8 | 9 => Command::Following(place),
+        10 | 11 => Command::Preceding(place),
+        12 => Command::Is(place),
         _ => {
-            let insert = draws.text(alloc, alphabet, many)?;
-            format!(in alloc; "replace {place} {remove} {insert}")
+            let edit = draws.edit(rt, alloc, LENGTH + 17);
+            Command::Replace {
+                at: edit.at,
+                remove: edit.remove,
+                text: Word::new(alloc, edit.insert.as_str()).expect(rt, "a word"),
+            }
         }
     }
-}
-
-/// A script of so many lines.
-fn drawn_script(alloc: Global, draws: &mut Draws, alphabet: &[char]) -> Result<String, AllocError> {
-    let mut script = String::new(alloc);
-    for _ in 0..COMMANDS {
-        let line = drawn_line(alloc, draws, alphabet)?;
-        script.push_str(line.as_str())?;
-        script.push('\n')?;
-    }
-    Ok(script)
 }
 
 /// Whether a character is white space.
@@ -112,91 +99,84 @@ fn is_white_space(c: char) -> bool {
 /// Whether the letters end with one of these, with nothing or white space before it.
 fn ends(letters: &str, list: &[&str]) -> bool {
     let letters = letters.trim_end_matches(' ');
-    list.iter().any(|member| match letters.strip_suffix(*member) {
-        Some(rest) => rest.chars().next_back().is_none_or(is_white_space),
-        None => false,
-    })
-}
-
-/// The letters, each as the second of the pair whose first it is.
-fn turned(alloc: Global, letters: &[char], pairs: &[(char, char)]) -> Result<String, AllocError> {
-    let mut text = String::new(alloc);
-    for letter in letters {
-        let pair = pairs.iter().find(|pair| pair.0 == *letter);
-        text.push(pair.map_or(*letter, |pair| pair.1))?;
+    for member in list {
+        if let Some(rest) = letters.strip_suffix(*member) {
+            if rest.chars().next_back().is_none_or(is_white_space) {
+                return true;
+            }
+        }
     }
-    Ok(text)
+    false
 }
 
 /// Whether the place lies within the letters, and one of these ends the at most 64 before it.
-fn is_hidden(
-    alloc: Global,
-    letters: &[char],
-    at: usize,
-    list: &[&str],
-) -> Result<bool, AllocError> {
+fn is_hidden(rt: &impl Abort, alloc: Global, letters: &[char], at: u32, list: &[&str]) -> bool {
+    let at = at as usize;
     if at == 0 || at >= letters.len() {
-        return Ok(false);
+        return false;
     }
-    let before = turned(alloc, &letters[at.saturating_sub(64)..at], &[])?;
-    Ok(ends(before.as_str(), list))
+    let before = mapped(rt, alloc, &letters[at.saturating_sub(64)..at], &[]);
+    ends(before.as_str(), list)
 }
 
-/// A text and a cursor, of which all boundaries are found anew for each command.
+/// A text and a cursor, of which all boundaries are found again for each command, and what stands
+/// between them.
 #[derive(Drop)]
 struct Model<'a> {
-    table: &'a Table,
+    rescans: Rescans<'a>,
     plain: Plain<'a>,
-    letters: Vec<char>,
-    cursor: u32,
 }
 
-/// The boundaries that are reported, and the number of characters.
-fn told<L: Ledger>(
+/// The boundaries that are reported.
+fn reported<L: Ledger>(
+    rt: &impl Abort,
     alloc: Global,
     model: &Model<'_>,
     steps: &mut Steps<L>,
-) -> Result<(Vec<Boundary>, u32), Fail> {
-    let letters = &model.letters;
+) -> Vec<Boundary> {
     let (list, pairs): (&[&str], &[(char, char)]) = match model.plain {
         Plain::Hiding(list) => (list, &[]),
         Plain::Turning(pairs) => (&[], pairs),
     };
-    let searched = turned(alloc, letters, pairs)?;
-    let text = PlainText::new(alloc, searched.as_str())?;
-    let mut told = Vec::new(alloc);
-    for boundary in boundaries(alloc, model.table, &text, steps)? {
-        if !is_hidden(alloc, letters, boundary.at as usize, list)? {
-            told.push(boundary)?;
+    let mut reported = Vec::new(alloc);
+    for boundary in &model.rescans.boundaries(rt, alloc, pairs, steps) {
+        if !is_hidden(rt, alloc, &model.rescans.letters, boundary.at, list) {
+            reported.push(*boundary).expect(rt, "a boundary");
         }
     }
-    Ok((told, text.len()))
+    reported
 }
 
-/// The statuses of a list, joined.
-fn statuses(alloc: Global, table: &Table, status: u16) -> Result<String, AllocError> {
-    let mut text = String::new(alloc);
-    if status >= table.lists() {
-        return Ok(text);
-    }
-    for (i, value) in table.status_list(status).iter().enumerate() {
-        if i > 0 {
-            text.push(',')?;
+/// Adds a string to a reply.
+fn add(rt: &impl Abort, reply: &mut Vec<u8>, more: &str) {
+    append(more.as_bytes(), reply).expect(rt, more);
+}
+
+/// Adds a number to a reply.
+fn add_number(rt: &impl Abort, reply: &mut Vec<u8>, number: u32) {
+    append_number(number, reply).expect(rt, "a number");
+}
+
+/// Adds a line with the statuses of a list, joined.
+fn add_statuses(rt: &impl Abort, reply: &mut Vec<u8>, table: &Table, status: u16) {
+    if status < table.lists() {
+        for (i, value) in table.status_list(status).iter().enumerate() {
+            if i > 0 {
+                add(rt, reply, ",");
+            }
+            add_number(rt, reply, *value);
         }
-        text.push_str(format!(in alloc; "{value}")?.as_str())?;
     }
-    Ok(text)
+    add(rt, reply, "\n");
 }
 
-/// The lines of boundaries.
-fn lines(alloc: Global, table: &Table, told: &[Boundary]) -> Result<String, AllocError> {
-    let mut text = String::new(alloc);
-    for boundary in told {
-        let at = boundary.at;
-        let list = statuses(alloc, table, boundary.status)?;
-        text.push_str(format!(in alloc; "{at} {list}\n")?.as_str())?;
+/// Adds the lines of boundaries.
+fn add_boundaries(rt: &impl Abort, reply: &mut Vec<u8>, table: &Table, all: &[Boundary]) {
+    for boundary in all {
+        add_number(rt, reply, boundary.at);
+        add(rt, reply, " ");
+        add_statuses(rt, reply, table, boundary.status);
     }
-    Ok(text)
 }
 
 /// What a command asks for, where it is a question.
@@ -213,218 +193,210 @@ fn question_of(command: &Command) -> Option<Question> {
     }
 }
 
-/// The reply to a question.
-fn answer(
+/// Adds the reply to a question.
+fn add_answer(rt: &impl Abort, reply: &mut Vec<u8>, question: Question, place: Option<u32>) {
+    match (question, place) {
+        (Question::IsBoundary(_), Some(1)) => add(rt, reply, "yes"),
+        (Question::IsBoundary(_), _) => add(rt, reply, "no"),
+        (_, Some(place)) => add_number(rt, reply, place),
+        (_, None) => add(rt, reply, "done"),
+    }
+    add(rt, reply, "\n");
+}
+
+/// Adds the reply to an edit.
+fn add_edited(
+    rt: &impl Abort,
     alloc: Global,
-    model: &mut Model<'_>,
-    told: &[Boundary],
-    len: u32,
-    question: Question,
-) -> Result<String, AllocError> {
-    let answer = answer_on(told, len, model.cursor, question);
-    model.cursor = answer.cursor;
-    match (question, answer.reply) {
-        (Question::IsBoundary(_), Some(1)) => String::from_str(alloc, "yes\n"),
-        (Question::IsBoundary(_), _) => String::from_str(alloc, "no\n"),
-        (_, Some(place)) => format!(in alloc; "{place}\n"),
-        (_, None) => String::from_str(alloc, "done\n"),
+    reply: &mut Vec<u8>,
+    rescans: &mut Rescans<'_>,
+    edit: (u32, u32, &str),
+) {
+    if rescans.replace(rt, alloc, edit.0, edit.1, edit.2) {
+        add(rt, reply, "ok ");
+        add_number(rt, reply, rescans.len());
+        add(rt, reply, "\n");
+    } else {
+        add(rt, reply, "outside\n");
     }
 }
 
-/// The reply to an edit.
-fn edit(
-    alloc: Global,
-    model: &mut Model<'_>,
-    at: u32,
-    remove: u32,
-    insert: &str,
-) -> Result<String, AllocError> {
-    let (at, end) = (at as usize, at as usize + remove as usize);
-    if end > model.letters.len() {
-        return String::from_str(alloc, "outside\n");
-    }
-    let mut letters: Vec<char> = Vec::from_slice(alloc, &model.letters[..at])?;
-    for letter in insert.chars() {
-        letters.push(letter)?;
-    }
-    letters.extend_from_slice(&model.letters[end..])?;
-    let count = letters.len();
-    model.letters = letters;
-    model.cursor = 0;
-    format!(in alloc; "ok {count}\n")
-}
-
-/// The reply to a command.
+/// The reply to a command, and a line with the cursor then.
 fn reply<L: Ledger>(
+    rt: &impl Abort,
     alloc: Global,
     model: &mut Model<'_>,
     command: &Command,
     steps: &mut Steps<L>,
-) -> Result<String, Fail> {
-    let (told, len) = told(alloc, model, steps)?;
+) -> Vec<u8> {
+    let mut reply = Vec::new(alloc);
+    let reported = reported(rt, alloc, model, steps);
+    let rescans = &mut model.rescans;
     if let Some(question) = question_of(command) {
-        return Ok(answer(alloc, model, &told, len, question)?);
+        let answer = answer_on(&reported, rescans.len(), rescans.cursor, question);
+        rescans.cursor = answer.cursor;
+        add_answer(rt, &mut reply, question, answer.reply);
+    } else if let Command::Replace { at, remove, text } = command {
+        add_edited(
+            rt,
+            alloc,
+            &mut reply,
+            rescans,
+            (*at, *remove, text.as_str()),
+        );
+    } else if let Command::Breaks = command {
+        add_boundaries(rt, &mut reply, rescans.table, &reported);
+    } else {
+        add_statuses(
+            rt,
+            &mut reply,
+            rescans.table,
+            status_at(&reported, rescans.cursor),
+        );
     }
-    match command {
-        Command::Replace { at, remove, text } => {
-            Ok(edit(alloc, model, *at, *remove, text.as_str())?)
-        }
-        Command::Breaks => Ok(lines(alloc, model.table, &told)?),
-        _ => {
-            let mut line = statuses(alloc, model.table, status_at(&told, model.cursor))?;
-            line.push('\n')?;
-            Ok(line)
-        }
-    }
+    add_number(rt, &mut reply, rescans.cursor);
+    add(rt, &mut reply, "\n");
+    reply
 }
 
 /// The number of the first command, from 0, to which a session replies otherwise than the model, or
 /// after which its cursor is elsewhere.
 fn first_other<S: Walk, L: Ledger>(
+    rt: &impl Abort,
     alloc: Global,
     session: &mut S,
     model: &mut Model<'_>,
-    commands: &Commands,
+    draws: &mut Draws<'_>,
     steps: &mut Steps<L>,
-) -> Result<Option<usize>, Fail> {
-    for i in 0..commands.len() {
-        let command = commands.get(i);
+) -> Option<u32> {
+    for number in 0..COMMANDS {
+        let command = drawn_command(rt, alloc, draws);
         let mut said = Vec::new(alloc);
-        perform_by(session, command, &mut said, steps)?;
-        perform_by(session, &Command::Current, &mut said, steps)?;
-        let mut wanted = reply(alloc, model, command, steps)?;
-        let cursor = model.cursor;
-        wanted.push_str(format!(in alloc; "{cursor}\n")?.as_str())?;
-        if said.as_slice() != wanted.as_bytes() {
-            return Ok(Some(i));
+        perform_by(session, &command, &mut said, steps).expect(rt, "a reply");
+        perform_by(session, &Command::Current, &mut said, steps).expect(rt, "a reply");
+        if said.as_slice() != reply(rt, alloc, model, &command, steps).as_slice() {
+            return Some(number);
         }
     }
-    Ok(None)
+    None
 }
 
 /// The first command to which a session past abbreviations, with this predicate of them, replies
 /// otherwise than the model.
 fn first_other_filtered<P: Predicate + Drop, L: Ledger>(
+    rt: &impl Abort,
     alloc: Global,
     text: Pieces,
     list: &Abbreviations,
     keep: P,
     model: &mut Model<'_>,
-    commands: &Commands,
+    draws: &mut Draws<'_>,
     steps: &mut Steps<L>,
-) -> Result<Option<usize>, Fail>
+) -> Option<u32>
     requires { AnswersEnds (P.can_ask keep) (P.answers keep) list.now }
 {
-    let session = Session::open(alloc, model.table, text)?;
+    let session = Session::open(alloc, model.rescans.table, text).expect(rt, "a session");
     let mut session = Filtered::open(session, list, keep);
-    first_other(alloc, &mut session, model, commands, steps)
+    first_other(rt, alloc, &mut session, model, draws, steps)
 }
 
 /// The first command to which a session over mapped characters, with this map of them, replies
 /// otherwise than the model.
 fn first_other_tailored<G: CharMap + Drop, L: Ledger>(
+    rt: &impl Abort,
     alloc: Global,
     text: Pieces,
     pairs: &Tailoring,
     map: G,
     model: &mut Model<'_>,
-    commands: &Commands,
+    draws: &mut Draws<'_>,
     steps: &mut Steps<L>,
-) -> Result<Option<usize>, Fail>
+) -> Option<u32>
     requires { Turns (G.can_map map) (G.maps map) pairs.now }
 {
-    let mut session = Tailored::open(alloc, model.table, text, pairs, map)?;
-    first_other(alloc, &mut session, model, commands, steps)
-}
-
-/// The commands of a random script.
-fn drawn_commands(
-    alloc: Global,
-    draws: &mut Draws,
-    alphabet: &[char],
-) -> Result<Option<Commands>, Fail> {
-    let script = drawn_script(alloc, draws, alphabet)?;
-    if script.len() > MOST_BYTES {
-        return Ok(None);
-    }
-    Ok(Some(read_script(alloc, script.as_bytes())?))
+    let session = Tailored::open(alloc, model.rescans.table, text, pairs, map);
+    let mut session = session.expect(rt, "a session");
+    first_other(rt, alloc, &mut session, model, draws, steps)
 }
 
 /// The number of the first command, from 0, to which the session of the model's filter, whose file
 /// this is, replies otherwise than the model.
 fn first_other_of_filter<L: Ledger>(
+    rt: &impl Abort,
     alloc: Global,
     text: Pieces,
     file: &[u8],
     model: &mut Model<'_>,
-    commands: &Commands,
+    draws: &mut Draws<'_>,
     steps: &mut Steps<L>,
-) -> Result<Option<usize>, Fail> {
-    if file.len() > MOST_BYTES {
-        return Ok(Some(0));
-    }
+) -> Option<u32> {
+    assert!(rt; file.len() < 1000);
     match model.plain {
         Plain::Hiding(_) => {
-            let list = Abbreviations::read(alloc, file)?;
+            let list = Abbreviations::read(alloc, file).expect(rt, "a list");
             let keep = |w: &[char]| list.ends(w);
-            first_other_filtered(alloc, text, &list, keep, model, commands, steps)
+            first_other_filtered(rt, alloc, text, &list, keep, model, draws, steps)
         }
         Plain::Turning(_) => {
-            let pairs = Tailoring::read(alloc, file)?;
+            let pairs = Tailoring::read(alloc, file).expect(rt, "a tailoring");
             let map = |c: char| pairs.turn(c);
-            first_other_tailored(alloc, text, &pairs, map, model, commands, steps)
+            first_other_tailored(rt, alloc, text, &pairs, map, model, draws, steps)
         }
     }
 }
 
 /// The number of the first command of a random script, from 0, to which the session of a filter
 /// replies otherwise than the model.
-fn first_other_of_script<L: Ledger>(
-    rt: &HostRuntime,
+fn first_other_of_script<L: Ledger, R: Abort>(
+    rt: &R,
+    host: &HostRuntime,
     table: &Table,
-    row: (&[char], Plain<'_>, &str),
-    seed: u64,
+    filter: (Plain<'_>, &str),
+    draws: &mut Draws<'_>,
     blank: Blank,
-) -> Result<Option<usize>, Fail>
+) -> Option<u32>
     requires name { blank.name ≡ L.name }
     requires parts { blank.parts ≡ L.parts }
     requires some { 0 < blank.parts }
 {
-    let alloc = rt.alloc();
-    let (alphabet, plain, file) = row;
-    let mut steps = Steps::<L>::new(rt, blank);
-    let mut draws = Draws::new(seed);
-    let drawn = draws.text(alloc, alphabet, LENGTH)?;
-    let Some(commands) = drawn_commands(alloc, &mut draws, alphabet)? else {
-        return Ok(Some(0));
-    };
-    let text = Pieces::new(alloc, drawn.as_str())?;
-    let letters = drawn.chars().collect(alloc)?;
-    let mut model = Model {
-        table,
-        plain,
-        letters,
-        cursor: 0,
-    };
+    let alloc = host.alloc();
+    let (plain, file) = filter;
+    let mut steps = Steps::<L>::new(host, blank);
+    let letters = draws.text(rt, alloc, LENGTH);
+    let text = Pieces::new(alloc, letters.as_str()).expect(rt, "a text");
+    let rescans = Rescans::open(rt, alloc, table, letters.as_str());
+    let mut model = Model { rescans, plain };
     first_other_of_filter(
+        rt,
         alloc,
         text,
         file.as_bytes(),
         &mut model,
-        &commands,
+        draws,
         &mut steps,
     )
 }
 
 #[test]
-fn scripts_through_filters(rt: HostRuntime) -> Result<(), Fail> {
-    for (rules, alphabet, plain, file) in FILTERS {
-        let table = table_of(rt.alloc(), rules)?;
+fn scripts_through_filters(rt: HostRuntime) {
+    for row in FILTERS {
+        let (rules, alphabet, plain, file) = *row;
+        let table = table_of(&rt, rt.alloc(), rules);
         for seed in 0..SCRIPTS {
-            let row = (*alphabet, *plain, *file);
-            let other = first_other_of_script::<Brand>(&rt, &table, row, seed, Blank::new(1))?;
-            assert_eq!(rt; other, None, "of {rules:?} and seed {seed}");
+            let mut draws = Draws::new(seed, alphabet);
+            let filter = (plain, file);
+            let other = first_other_of_script::<Brand, _>(
+                &rt,
+                &rt,
+                &table,
+                filter,
+                &mut draws,
+                Blank::new(1),
+            );
+            assert!(rt;
+                other.is_none(),
+                "seed {seed}, command {other:?} of {rules:?}"
+            );
         }
     }
-    Ok(())
 }

@@ -12,15 +12,11 @@ mod counted;
 #[cfg(test)]
 mod counts;
 #[cfg(test)]
-mod demonstration;
-#[cfg(test)]
 mod draws;
 #[cfg(test)]
 mod filters;
 #[cfg(test)]
 mod kept;
-#[cfg(test)]
-mod played;
 #[cfg(test)]
 mod questions;
 #[cfg(test)]
@@ -31,9 +27,5 @@ mod rescans;
 mod searches;
 #[cfg(test)]
 mod tables;
-#[cfg(test)]
-mod units;
-#[cfg(test)]
-mod verdicts;
 #[cfg(test)]
 mod worked;

@@ -27,16 +27,23 @@ pub(crate) struct Answer {
     pub(crate) cursor: u32,
 }
 
+/// The first boundary that isn't before a place.
+fn from(boundaries: &[Boundary], place: u64) -> Option<u32> {
+    for boundary in boundaries {
+        if u64::from(boundary.at) >= place {
+            return Some(boundary.at);
+        }
+    }
+    None
+}
+
 /// The first boundary past a place.
-pub(crate) fn past(boundaries: &[Boundary], place: u32) -> Option<u32> {
-    boundaries
-        .iter()
-        .map(|boundary| boundary.at)
-        .find(|at| *at > place)
+fn past(boundaries: &[Boundary], place: u32) -> Option<u32> {
+    from(boundaries, u64::from(place) + 1)
 }
 
 /// The last boundary before a place.
-pub(crate) fn before(boundaries: &[Boundary], place: u32) -> Option<u32> {
+fn before(boundaries: &[Boundary], place: u32) -> Option<u32> {
     let mut last = None;
     for boundary in boundaries {
         if boundary.at < place {
@@ -44,14 +51,6 @@ pub(crate) fn before(boundaries: &[Boundary], place: u32) -> Option<u32> {
         }
     }
     last
-}
-
-/// The first boundary that isn't before a place.
-fn from(boundaries: &[Boundary], place: u32) -> Option<u32> {
-    boundaries
-        .iter()
-        .map(|boundary| boundary.at)
-        .find(|at| *at >= place)
 }
 
 /// The answer to a question on all boundaries of a text of this length, from this cursor.
@@ -69,7 +68,7 @@ pub(crate) fn answer_on(
         Question::Following(place) => (past(boundaries, place), len),
         Question::Preceding(place) => (before(boundaries, place), 0),
         Question::IsBoundary(place) => {
-            let here = from(boundaries, place);
+            let here = from(boundaries, u64::from(place));
             return Answer {
                 reply: Some(u32::from(here == Some(place))),
                 cursor: here.unwrap_or(len),

@@ -10,10 +10,10 @@ use crate::tables::{WORDS, table_of};
 use rbbi_session::Session;
 use rbbi_table::Table;
 use rbbi_text::{Chars, Pieces, Steps};
-use std::alloc::{AllocError, Global};
+use std::alloc::Global;
 use std::marker::Brand;
+use std::process::Abort;
 use std::sync::ledger::{Blank, Ledger};
-use std::test::Fail;
 
 /// Rules, and the characters of their texts.
 const RULES: &[(&str, &[char])] = &[
@@ -41,7 +41,7 @@ const LENGTH: u32 = 300;
 const EDIT_COST: u32 = 1026;
 
 /// A question at a place within a text of this length, at its end or past it.
-fn drawn_question(draws: &mut Draws, len: u32) -> Question {
+fn drawn_question(draws: &mut Draws<'_>, len: u32) -> Question {
     let place = match draws.below(40) {
         0 => u32::MAX,
         1 => len,
@@ -122,138 +122,77 @@ fn is_answered<L: Ledger>(
     is_there(table, session, wanted)
 }
 
-/// An edit: so many characters are taken away from a place on, and a string stands there then.
-#[derive(Drop)]
-pub(crate) struct Edit {
-    pub(crate) at: u32,
-    pub(crate) remove: u32,
-    pub(crate) insert: String,
-}
-
-/// An edit at a place within a text of this length, at its end or past it.
-pub(crate) fn drawn_edit(
-    alloc: Global,
-    alphabet: &[char],
-    draws: &mut Draws,
-    len: u32,
-) -> Result<Edit, AllocError> {
-    let most = if draws.below(8) == 0 { 60 } else { 4 };
-    let at = draws.below(len.saturating_add(3));
-    let remove = draws.below(most);
-    let many = draws.below(most);
-    let insert = draws.text(alloc, alphabet, many)?;
-    Ok(Edit { at, remove, insert })
-}
-
-/// Edits, and tells whether all is as it must be.
+/// Makes a drawn edit, and tells whether all is as it must be.
 fn is_edited<L: Ledger>(
+    rt: &impl Abort,
     alloc: Global,
+    draws: &mut Draws<'_>,
     session: &mut Session<'_, Counted<Pieces>>,
     rescans: &mut Rescans<'_>,
-    edit: &Edit,
     steps: &mut Steps<L>,
-) -> Result<bool, AllocError> {
+) -> bool {
+    let edit = draws.edit(rt, alloc, session.text().len());
     let insert = edit.insert.as_str();
-    let wanted = rescans.replace(alloc, edit.at, edit.remove, insert)?;
+    let wanted = rescans.replace(rt, alloc, edit.at, edit.remove, insert);
     let taken = session.replace(edit.at, edit.remove, insert, steps).is_ok();
-    Ok(
-        taken == wanted
-            && session.text().reads() <= EDIT_COST
-            && session.text().len() as usize == rescans.len(),
-    )
+    taken == wanted && session.text().reads() <= EDIT_COST && session.text().len() == rescans.len()
 }
 
 /// Does a drawn command, and tells whether all is as it must be.
 fn is_done<L: Ledger>(
+    rt: &impl Abort,
     alloc: Global,
-    table: &Table,
-    alphabet: &[char],
-    draws: &mut Draws,
+    draws: &mut Draws<'_>,
     session: &mut Session<'_, Counted<Pieces>>,
     rescans: &mut Rescans<'_>,
     steps: &mut Steps<L>,
-) -> Result<bool, Fail> {
-    let is_edit = draws.below(5) == 0;
-    let len = session.text().len();
-    if is_edit {
-        let edit = drawn_edit(alloc, alphabet, draws, len)?;
-        return Ok(is_edited(alloc, session, rescans, &edit, steps)?);
+) -> bool {
+    if draws.below(5) == 0 {
+        return is_edited(rt, alloc, draws, session, rescans, steps);
     }
-    let question = drawn_question(draws, len);
-    let wanted = rescans.ask(alloc, question, steps)?;
-    Ok(is_answered(table, session, wanted, question, steps))
-}
-
-/// The number of the first command, from 0, that isn't done as it must be.
-fn first_wrong<L: Ledger>(
-    alloc: Global,
-    table: &Table,
-    alphabet: &[char],
-    draws: &mut Draws,
-    session: &mut Session<'_, Counted<Pieces>>,
-    rescans: &mut Rescans<'_>,
-    steps: &mut Steps<L>,
-) -> Result<Option<u32>, Fail> {
-    for number in 0..COMMANDS {
-        if !is_done(alloc, table, alphabet, draws, session, rescans, steps)? {
-            return Ok(Some(number));
-        }
-    }
-    Ok(None)
+    let question = drawn_question(draws, session.text().len());
+    let wanted = rescans.ask(rt, alloc, question, steps);
+    is_answered(rescans.table, session, wanted, question, steps)
 }
 
 /// The number of the first command of a random script, from 0, that isn't done as it must be.
-fn first_wrong_of_script<L: Ledger>(
-    rt: &HostRuntime,
+fn first_wrong<L: Ledger, R: Abort>(
+    rt: &R,
+    host: &HostRuntime,
     table: &Table,
-    alphabet: &[char],
-    seed: u64,
+    draws: &mut Draws<'_>,
     blank: Blank,
-) -> Result<Option<u32>, Fail>
+) -> Option<u32>
     requires name { blank.name ≡ L.name }
     requires parts { blank.parts ≡ L.parts }
     requires some { 0 < blank.parts }
 {
-    let alloc = rt.alloc();
-    let mut steps = Steps::<L>::new(rt, blank);
-    let mut draws = Draws::new(seed);
-    let letters = draws.text(alloc, alphabet, LENGTH)?;
-    let text = Counted::new(Pieces::new(alloc, letters.as_str())?);
-    let mut session = Session::open(alloc, table, text)?;
-    let mut rescans = Rescans::open(table, letters);
-    first_wrong(
-        alloc,
-        table,
-        alphabet,
-        &mut draws,
-        &mut session,
-        &mut rescans,
-        &mut steps,
-    )
-}
-
-/// The seed of the first script of a rule file and the number of its first command, from 0, that
-/// isn't done as it must be.
-fn first_wrong_of_scripts(
-    rt: &HostRuntime,
-    rules: &str,
-    alphabet: &[char],
-) -> Result<Option<(u64, u32)>, Fail> {
-    let table = table_of(rt.alloc(), rules)?;
-    for seed in 0..SCRIPTS {
-        let wrong = first_wrong_of_script::<Brand>(rt, &table, alphabet, seed, Blank::new(1))?;
-        if let Some(number) = wrong {
-            return Ok(Some((seed, number)));
+    let alloc = host.alloc();
+    let mut steps = Steps::<L>::new(host, blank);
+    let letters = draws.text(rt, alloc, LENGTH);
+    let text = Counted::new(Pieces::new(alloc, letters.as_str()).expect(rt, "a text"));
+    let mut session = Session::open(alloc, table, text).expect(rt, "a session");
+    let mut rescans = Rescans::open(rt, alloc, table, letters.as_str());
+    for number in 0..COMMANDS {
+        if !is_done(rt, alloc, draws, &mut session, &mut rescans, &mut steps) {
+            return Some(number);
         }
     }
-    Ok(None)
+    None
 }
 
 #[test]
-fn scripts_by_rescans(rt: HostRuntime) -> Result<(), Fail> {
-    for (rules, alphabet) in RULES {
-        let wrong = first_wrong_of_scripts(&rt, rules, alphabet)?;
-        assert_eq!(rt; wrong, None, "seed and command of {rules:?}");
+fn scripts_by_rescans(rt: HostRuntime) {
+    for row in RULES {
+        let table = table_of(&rt, rt.alloc(), row.0);
+        for seed in 0..SCRIPTS {
+            let mut draws = Draws::new(seed, row.1);
+            let wrong = first_wrong::<Brand, _>(&rt, &rt, &table, &mut draws, Blank::new(1));
+            assert!(rt;
+                wrong.is_none(),
+                "seed {seed}, command {wrong:?} of {:?}",
+                row.0
+            );
+        }
     }
-    Ok(())
 }

@@ -1,4 +1,4 @@
-//! A session of whole rescans: each question is answered on all boundaries of the text, found anew
+//! A session of whole rescans: each question is answered on all boundaries of the text, found again
 //! from its start.
 
 use crate::costs::cost;
@@ -6,16 +6,16 @@ use crate::questions::{Answer, Boundary, Question, answer_on};
 use crate::searches::searches;
 use rbbi_table::Table;
 use rbbi_text::{Chars, PlainText, Steps};
-use std::alloc::{AllocError, Global};
+use std::alloc::Global;
+use std::process::Abort;
 use std::sync::ledger::Ledger;
-use std::test::Fail;
 
 /// A text, its table and a cursor.
 #[derive(Drop)]
 pub(crate) struct Rescans<'a> {
-    table: &'a Table,
-    letters: String,
-    cursor: u32,
+    pub(crate) table: &'a Table,
+    pub(crate) letters: Vec<char>,
+    pub(crate) cursor: u32,
 }
 
 /// What a question must give.
@@ -29,106 +29,138 @@ pub(crate) struct Wanted {
 }
 
 /// All boundaries of a text.
-pub(crate) fn boundaries<L: Ledger>(
+fn boundaries<L: Ledger>(
+    rt: &impl Abort,
     alloc: Global,
     table: &Table,
     text: &PlainText,
     steps: &mut Steps<L>,
-) -> Result<Vec<Boundary>, AllocError> {
+) -> Vec<Boundary> {
     let mut all = Vec::new(alloc);
-    all.push(Boundary { at: 0, status: 0 })?;
-    let found = searches(alloc, table, text, 0, steps)?;
+    all.push(Boundary { at: 0, status: 0 })
+        .expect(rt, "a boundary");
+    let found = searches(rt, alloc, table, text, 0, steps);
     for search in found.as_slice() {
-        all.push(Boundary {
+        let boundary = Boundary {
             at: search.at,
             status: search.status,
-        })?;
+        };
+        all.push(boundary).expect(rt, "a boundary");
     }
-    Ok(all)
+    all
 }
 
 /// The status list of the boundary at a place.
 pub(crate) fn status_at(boundaries: &[Boundary], place: u32) -> u16 {
-    let found = boundaries.iter().find(|boundary| boundary.at == place);
-    found.map_or(u16::MAX, |boundary| boundary.status)
+    for boundary in boundaries {
+        if boundary.at == place {
+            return boundary.status;
+        }
+    }
+    u16::MAX
 }
 
-/// A text with other letters in place of some, which it has.
-pub(crate) fn spliced(
+/// The string of letters, each as the second of the pair whose first it is.
+pub(crate) fn mapped(
+    rt: &impl Abort,
     alloc: Global,
-    letters: &str,
-    at: u32,
-    remove: u32,
-    insert: &str,
-) -> Result<String, AllocError> {
+    letters: &[char],
+    pairs: &[(char, char)],
+) -> String {
     let mut text = String::new(alloc);
-    for letter in letters.chars().take(at as usize) {
-        text.push(letter)?;
+    for letter in letters {
+        let mut other = *letter;
+        for pair in pairs {
+            if pair.0 == *letter {
+                other = pair.1;
+            }
+        }
+        text.push(other).expect(rt, "a letter");
     }
-    text.push_str(insert)?;
-    for letter in letters.chars().skip(at as usize + remove as usize) {
-        text.push(letter)?;
-    }
-    Ok(text)
+    text
 }
 
 impl<'a> Rescans<'a> {
-    pub(crate) fn open(table: &'a Table, letters: String) -> Rescans<'a> {
+    pub(crate) fn open(
+        rt: &impl Abort,
+        alloc: Global,
+        table: &'a Table,
+        text: &str,
+    ) -> Rescans<'a> {
         Rescans {
             table,
-            letters,
+            letters: text.chars().collect(alloc).expect(rt, "letters"),
             cursor: 0,
         }
+    }
+
+    /// The text as it is, with each letter as the second of the pair whose first it is.
+    fn text(&self, rt: &impl Abort, alloc: Global, pairs: &[(char, char)]) -> PlainText {
+        let letters = mapped(rt, alloc, &self.letters, pairs);
+        PlainText::new(alloc, letters.as_str()).expect(rt, "a text")
     }
 
     /// What a question must give. It moves the cursor.
     pub(crate) fn ask<L: Ledger>(
         &mut self,
+        rt: &impl Abort,
         alloc: Global,
         question: Question,
         steps: &mut Steps<L>,
-    ) -> Result<Wanted, Fail> {
-        let text = PlainText::new(alloc, self.letters.as_str())?;
-        let boundaries = boundaries(alloc, self.table, &text, steps)?;
-        let cost = cost(alloc, self.table, &text, self.cursor, question, steps)?;
+    ) -> Wanted {
+        let text = self.text(rt, alloc, &[]);
+        let boundaries = boundaries(rt, alloc, self.table, &text, steps);
+        let cost = cost(rt, alloc, self.table, &text, self.cursor, question, steps);
         let answer = answer_on(&boundaries, text.len(), self.cursor, question);
         self.cursor = answer.cursor;
-        Ok(Wanted {
+        Wanted {
             answer,
             status: status_at(&boundaries, answer.cursor),
             cost,
-        })
+        }
     }
 
-    /// All boundaries of the text as it is.
+    /// All boundaries of the text as it is, with each letter as the second of the pair whose first it
+    /// is.
     pub(crate) fn boundaries<L: Ledger>(
         &self,
+        rt: &impl Abort,
         alloc: Global,
+        pairs: &[(char, char)],
         steps: &mut Steps<L>,
-    ) -> Result<Vec<Boundary>, Fail> {
-        let text = PlainText::new(alloc, self.letters.as_str())?;
-        Ok(boundaries(alloc, self.table, &text, steps)?)
+    ) -> Vec<Boundary> {
+        let text = self.text(rt, alloc, pairs);
+        boundaries(rt, alloc, self.table, &text, steps)
     }
 
     /// The number of characters.
-    pub(crate) fn len(&self) -> usize {
-        self.letters.chars().count()
+    pub(crate) fn len(&self) -> u32 {
+        (self.letters.len() % 4_294_967_296) as u32
     }
 
     /// Puts a string in place of so many characters from a place on. Tells whether they are there;
     /// where they aren't, all stays.
     pub(crate) fn replace(
         &mut self,
+        rt: &impl Abort,
         alloc: Global,
         at: u32,
         remove: u32,
         insert: &str,
-    ) -> Result<bool, AllocError> {
-        if at as usize + remove as usize > self.len() {
-            return Ok(false);
+    ) -> bool {
+        let (at, end) = (at as usize, at as usize + remove as usize);
+        if end > self.letters.len() {
+            return false;
         }
-        self.letters = spliced(alloc, self.letters.as_str(), at, remove, insert)?;
+        let mut letters = self.letters[..at].to_vec(alloc).expect(rt, "letters");
+        for letter in insert.chars() {
+            letters.push(letter).expect(rt, "a letter");
+        }
+        letters
+            .extend_from_slice(&self.letters[end..])
+            .expect(rt, "letters");
+        self.letters = letters;
         self.cursor = 0;
-        Ok(true)
+        true
     }
 }

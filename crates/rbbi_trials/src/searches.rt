@@ -1,10 +1,9 @@
 //! Searches in a text from any place on, as if that were a boundary.
-ghost use Rattle.std.specs.Prelude.{◌≡◌, ◌<◌, length, OnSome};
-ghost use Rattle.rbbi_model.specs.Words.{most_characters};
 
 use rbbi_table::{FrontPlaces, Table};
 use rbbi_text::{Chars, PlainText, Steps};
-use std::alloc::{AllocError, Global};
+use std::alloc::Global;
+use std::process::Abort;
 use std::sync::ledger::Ledger;
 
 /// A search.
@@ -19,45 +18,32 @@ pub(crate) struct Search {
     pub(crate) end: u32,
 }
 
-/// The search from a place; from the end of the text there is none.
-fn search_from<L: Ledger>(
-    alloc: Global,
-    table: &Table,
-    text: &PlainText,
-    from: u32,
-    steps: &mut Steps<L>,
-) -> Result<Option<Search>, AllocError> {
-    let mut marks = FrontPlaces::new(alloc, table)?;
-    let len = text.len();
-    if from >= len {
-        return Ok(None);
-    }
-    let found = table.next(text, from, &mut marks, steps);
-    Ok(Some(Search {
-        from,
-        at: found.at,
-        status: found.status,
-        end: found.look.min(len),
-    }))
-}
-
 /// The searches from a place on, each from the boundary that the one before it found, to the end of
 /// the text.
 pub(crate) fn searches<L: Ledger>(
+    rt: &impl Abort,
     alloc: Global,
     table: &Table,
     text: &PlainText,
     from: u32,
     steps: &mut Steps<L>,
-) -> Result<Vec<Search>, AllocError> {
+) -> Vec<Search> {
+    let mut marks = FrontPlaces::new(alloc, table).expect(rt, "places of fronts");
     let mut all = Vec::new(alloc);
     let mut at = from;
     for _ in 0..text.len() {
-        let Some(found) = search_from(alloc, table, text, at, steps)? else {
+        if at >= text.len() {
             break;
+        }
+        let found = table.next(text, at, &mut marks, steps);
+        let search = Search {
+            from: at,
+            at: found.at,
+            status: found.status,
+            end: found.look.min(text.len()),
         };
+        all.push(search).expect(rt, "a search");
         at = found.at;
-        all.push(found)?;
     }
-    Ok(all)
+    all
 }

@@ -3,9 +3,9 @@
 use rbbi_compile::compile;
 use rbbi_props::PropTable;
 use rbbi_table::Table;
-use rbbi_text::{EditErr, MOST_BYTES};
+use rbbi_text::MOST_BYTES;
 use std::alloc::Global;
-use std::test::Fail;
+use std::process::Abort;
 
 /// The rules of words: letters with one apostrophe between, tagged 200, and digits with one point
 /// or comma between, tagged 100.
@@ -15,10 +15,7 @@ $ALetter {200}; $Numeric {100}; $ALetter $ALetter {200}; $ALetter $Mid $ALetter 
 $Numeric $Numeric {100}; $Numeric $MidNum $Numeric {100}; .;";
 
 /// The table of the rules of a text, without property files.
-pub(crate) fn table_of(alloc: Global, text: &str) -> Result<Table, Fail> {
-    if text.len() > MOST_BYTES {
-        return Err(Fail::from(EditErr::TooLong));
-    }
-    let none = PropTable::new(alloc);
-    Ok(compile(alloc, text, &none, false)?)
+pub(crate) fn table_of(rt: &impl Abort, alloc: Global, text: &str) -> Table {
+    assert!(rt; text.len() <= MOST_BYTES);
+    compile(alloc, text, &PropTable::new(alloc), false).expect(rt, text)
 }

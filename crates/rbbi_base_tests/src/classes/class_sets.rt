@@ -1,17 +1,32 @@
 //! Sets of classes, from ranges and back.
-use super::{Case, division_by, fine_division, is_in};
+use super::{are, division_by, fine_division};
 use crate::ranges::{LAST, Pairs, set_of};
 use rbbi_classes::{ClassSet, ClassShelf, Division, Layout};
 use std::alloc::{AllocError, Global};
-use std::test::Fail;
 
-/// Two ends of a range, and the code points of the classes that begin in it.
-type Span = (u32, u32, Pairs);
+/// The classes whose first code points are in some ranges.
+fn classes_of(
+    alloc: Global,
+    layout: &Layout,
+    pairs: &[(u32, u32)],
+) -> Result<ClassSet, AllocError> {
+    ClassSet::of_set(alloc, layout, &set_of(alloc, pairs)?)
+}
+
+/// The same, in chunks that are shared.
+fn kept_classes_of(
+    alloc: Global,
+    division: &Division,
+    pairs: &[(u32, u32)],
+) -> Result<ClassSet, AllocError> {
+    let classes = classes_of(alloc, division.layout(), pairs)?;
+    ClassShelf::new(alloc).keep(alloc, &classes)
+}
 
 /// Digits, letters, and hexadecimal digits. So these are the classes, by their first code points: 0
 /// what is none of them, 0x30 the digits, 0x41 the hexadecimal digits that are letters, 0x47 the
 /// other letters, and 0xD800 the surrogates.
-const SETS: [Pairs; 3] = [
+const SETS: &[Pairs] = &[
     &[(0x30, 0x39)],
     &[(0x41, 0x5A), (0x61, 0x7A)],
     &[(0x30, 0x39), (0x41, 0x46), (0x61, 0x66)],
@@ -26,163 +41,110 @@ const OTHERS: Pairs = &[
     (0xE000, LAST),
 ];
 
-/// The classes whose first code points are in some ranges.
-fn classes_of(
-    alloc: Global,
-    layout: &Layout,
-    pairs: &[(u32, u32)],
-) -> Result<ClassSet, AllocError> {
-    ClassSet::of_set(alloc, layout, &set_of(alloc, pairs)?)
-}
+/// All but the others.
+const IN_SETS: Pairs = &[(0x30, 0x39), (0x41, 0x5A), (0x61, 0x7A), (0xD800, 0xDFFF)];
 
-/// Whether the code points of the classes in the set are these. It asks where the tests have ends
-/// of ranges.
-fn are(division: &Division, set: &ClassSet, want: &[(u32, u32)]) -> bool {
-    for c in (0..2_050).chain(0xD700..0xE100).chain(LAST - 1..LAST + 2) {
-        if division.has(set, c) != is_in(want, c) {
-            return false;
-        }
-    }
-    true
-}
+/// The sets of a division, two ends of a range, and the code points of the classes that begin in it.
+type Span = (&'static [Pairs], u32, u32, Pairs);
 
-/// Whether the code points of the classes that begin in a range are these, and also where the range
-/// is a set.
-fn is_span(
-    alloc: Global,
-    division: &Division,
-    low: u32,
-    high: u32,
-    want: &[(u32, u32)],
-) -> Result<bool, AllocError> {
-    let found = ClassSet::range(alloc, division.layout(), low, high)?;
-    let same = classes_of(alloc, division.layout(), &[(low, high)])?;
-    Ok(are(division, &found, want) && are(division, &same, want))
-}
-
-const SPANS: [Span; 15] = [
-    (0, 0, OTHERS),
-    (0, 0x2F, OTHERS),
-    (0x30, 0x30, &[(0x30, 0x39)]),
-    (0x41, 0x46, &[(0x41, 0x46), (0x61, 0x66)]),
-    (0x46, 0x48, &[(0x47, 0x5A), (0x67, 0x7A)]),
-    (0x31, 0xD7FF, &[(0x41, 0x5A), (0x61, 0x7A)]),
-    (
-        1,
-        LAST,
-        &[(0x30, 0x39), (0x41, 0x5A), (0x61, 0x7A), (0xD800, 0xDFFF)],
-    ),
-    (0xD800, 0xD800, &[(0xD800, 0xDFFF)]),
-    (0, LAST, &[(0, LAST)]),
+const SPANS: [Span; 19] = [
+    (SETS, 0, 0, OTHERS),
+    (SETS, 0, 0x2F, OTHERS),
+    (SETS, 0x30, 0x30, &[(0x30, 0x39)]),
+    (SETS, 0x41, 0x46, &[(0x41, 0x46), (0x61, 0x66)]),
+    (SETS, 0x46, 0x48, &[(0x47, 0x5A), (0x67, 0x7A)]),
+    (SETS, 0x31, 0xD7FF, &[(0x41, 0x5A), (0x61, 0x7A)]),
+    (SETS, 1, LAST, IN_SETS),
+    (SETS, 0xD800, 0xD800, &[(0xD800, 0xDFFF)]),
+    (SETS, 0, LAST, &[(0, LAST)]),
     // No class begins there.
-    (1, 0x2F, &[]),
-    (0x31, 0x40, &[]),
-    (0x61, 0x66, &[]),
-    (0xD801, LAST, &[]),
+    (SETS, 1, 0x2F, &[]),
+    (SETS, 0x31, 0x40, &[]),
+    (SETS, 0x61, 0x66, &[]),
+    (SETS, 0xD801, LAST, &[]),
     // No code point is there.
-    (0x47, 0x41, &[]),
-    (LAST + 1, u32::MAX, &[]),
+    (SETS, 0x47, 0x41, &[]),
+    (SETS, LAST + 1, u32::MAX, &[]),
+    // With no sets there are the surrogates and the others.
+    (&[], 0, 0xD7FF, &[(0, 0xD7FF), (0xE000, LAST)]),
+    (&[], 1, LAST, &[(0xD800, 0xDFFF)]),
+    (&[], 0, LAST, &[(0, LAST)]),
+    (&[], 0xE000, LAST, &[]),
 ];
 
-#[test]
-fn spans(rt: HostRuntime) -> Result<(), Fail> {
-    let division = division_by(rt.alloc(), &SETS)?;
-    for (low, high, want) in &SPANS {
-        assert!(rt; is_span(rt.alloc(), &division, *low, *high, want)?, "{low}");
-    }
-    Ok(())
+/// Whether these classes begin from one code point to another, as a range and as a set.
+fn is_span(alloc: Global, row: &Span) -> bool {
+    let (lists, low, high, want) = *row;
+    let Ok(division) = division_by(alloc, lists) else {
+        return false;
+    };
+    let layout = division.layout();
+    are(&division, &ClassSet::range(alloc, layout, low, high), want)
+        && are(&division, &classes_of(alloc, layout, &[(low, high)]), want)
 }
 
-const SPANS_WITHOUT_SETS: [Span; 4] = [
-    (0, 0xD7FF, &[(0, 0xD7FF), (0xE000, LAST)]),
-    (1, LAST, &[(0xD800, 0xDFFF)]),
-    (0, LAST, &[(0, LAST)]),
-    (0xE000, LAST, &[]),
-];
-
 #[test]
-fn spans_without_sets(rt: HostRuntime) -> Result<(), Fail> {
-    // There are the surrogates and the others.
-    let division = division_by(rt.alloc(), &[])?;
-    for (low, high, want) in &SPANS_WITHOUT_SETS {
-        assert!(rt; is_span(rt.alloc(), &division, *low, *high, want)?, "{low}");
+fn spans(rt: HostRuntime) {
+    for row in &SPANS {
+        assert!(rt; is_span(rt.alloc(), row), "from {}", row.1);
     }
-    Ok(())
 }
 
-const MEMBERS: [(u32, bool); 15] = [
-    (0, false),
-    (0x30, false),
-    (0x46, false),
-    (0x47, true),
-    (0x5A, true),
-    (0x5B, false),
-    (0x66, false),
-    (0x67, true),
-    (0x7A, true),
-    (0x7B, false),
-    (0xD800, false),
-    (0xE000, false),
-    (LAST, false),
-    (LAST + 1, false),
-    (u32::MAX, false),
-];
+const LETTERS: Pairs = &[(0x47, 0x5A), (0x67, 0x7A)];
 
 #[test]
-fn members_of_shared_classes(rt: HostRuntime) -> Result<(), Fail> {
-    let division = division_by(rt.alloc(), &SETS)?;
-    let letters = classes_of(rt.alloc(), division.layout(), &[(0x47, 0x5A), (0x67, 0x7A)])?;
-    let kept = ClassShelf::new(rt.alloc()).keep(rt.alloc(), &letters)?;
-    for row in &MEMBERS {
-        let (c, is_member) = *row;
-        assert_eq!(rt; division.has(&kept, c), is_member, "at {c}");
-    }
-    Ok(())
+fn shared_classes(rt: HostRuntime) {
+    let division = division_by(rt.alloc(), SETS).expect(&rt, "a division");
+    assert!(rt;
+        are(
+            &division,
+            &kept_classes_of(rt.alloc(), &division, LETTERS),
+            LETTERS
+        )
+    );
 }
 
-/// Whether union, intersection and difference of two sets are what the case says.
+/// Two sets and what each operation gives of them.
+#[derive(Drop)]
+struct Case {
+    left: Pairs,
+    right: Pairs,
+    union: Pairs,
+    intersect: Pairs,
+    minus: Pairs,
+    /// What is in the second set and not in the first.
+    other_minus: Pairs,
+}
+
+fn union(alloc: Global, left: &ClassSet, right: &ClassSet) -> Result<ClassSet, AllocError> {
+    left.clone()?.union(alloc, right.clone()?)
+}
+
+fn meet(alloc: Global, left: &ClassSet, right: &ClassSet) -> Result<ClassSet, AllocError> {
+    left.clone()?.meet(alloc, right)
+}
+
+fn remove(alloc: Global, left: &ClassSet, right: &ClassSet) -> Result<ClassSet, AllocError> {
+    left.clone()?.remove(alloc, right)
+}
+
+/// Whether the operations on two sets, with either one first, give what the case says.
 fn is_case(
     alloc: Global,
     division: &Division,
     left: &ClassSet,
     right: &ClassSet,
     case: &Case,
-) -> Result<bool, AllocError> {
-    let union = left.clone()?.union(alloc, right.clone()?)?;
-    let both = left.clone()?.meet(alloc, right)?;
-    let rest = left.clone()?.remove(alloc, right)?;
-    Ok(
-        are(division, &union, case.union)
-            && are(division, &both, case.intersect)
-            && are(division, &rest, case.minus),
-    )
+) -> bool {
+    are(division, &union(alloc, left, right), case.union)
+        && are(division, &union(alloc, right, left), case.union)
+        && are(division, &meet(alloc, left, right), case.intersect)
+        && are(division, &meet(alloc, right, left), case.intersect)
+        && are(division, &remove(alloc, left, right), case.minus)
+        && are(division, &remove(alloc, right, left), case.other_minus)
 }
 
-/// Whether the case holds for the two sets, and for them in turn with what is left of the second
-/// one.
-fn is_case_both_ways(
-    alloc: Global,
-    division: &Division,
-    left: &ClassSet,
-    right: &ClassSet,
-    case: &Case,
-) -> Result<bool, AllocError> {
-    let other_way = Case {
-        left: case.right,
-        right: case.left,
-        union: case.union,
-        intersect: case.intersect,
-        minus: case.other_minus,
-        other_minus: case.minus,
-    };
-    Ok(
-        is_case(alloc, division, left, right, case)?
-            && is_case(alloc, division, right, left, &other_way)?,
-    )
-}
-
-/// Whether the case holds both ways with each set in a row of its own, and with one of them or both
-/// in chunks.
+/// The same with each set in words of its own, and with one of them or both in chunks.
 fn is_case_in_all_forms(
     alloc: Global,
     division: &Division,
@@ -190,13 +152,23 @@ fn is_case_in_all_forms(
 ) -> Result<bool, AllocError> {
     let left = classes_of(alloc, division.layout(), case.left)?;
     let right = classes_of(alloc, division.layout(), case.right)?;
-    let kept_left = ClassShelf::new(alloc).keep(alloc, &left)?;
-    let kept_right = ClassShelf::new(alloc).keep(alloc, &right)?;
+    let kept_right = kept_classes_of(alloc, division, case.right)?;
     Ok(
-        is_case_both_ways(alloc, division, &left, &right, case)?
-            && is_case_both_ways(alloc, division, &left, &kept_right, case)?
-            && is_case_both_ways(alloc, division, &kept_left, &kept_right, case)?,
+        is_case(alloc, division, &left, &right, case)
+            && is_case(alloc, division, &left, &kept_right, case)
+            && is_case_in_chunks(alloc, division, &kept_right, case)?,
     )
+}
+
+/// The same with both in chunks.
+fn is_case_in_chunks(
+    alloc: Global,
+    division: &Division,
+    kept_right: &ClassSet,
+    case: &Case,
+) -> Result<bool, AllocError> {
+    let kept_left = kept_classes_of(alloc, division, case.left)?;
+    Ok(is_case(alloc, division, &kept_left, kept_right, case))
 }
 
 const OPERATIONS: [Case; 9] = [
@@ -300,33 +272,11 @@ const OPERATIONS: [Case; 9] = [
 ];
 
 #[test]
-fn operations(rt: HostRuntime) -> Result<(), Fail> {
-    let division = fine_division(rt.alloc(), &[], 10_000)?;
+fn operations(rt: HostRuntime) {
+    let division = fine_division(rt.alloc(), &[], 10_000).expect(&rt, "a division");
     for case in &OPERATIONS {
-        let first = if case.left.is_empty() {
-            0
-        } else {
-            case.left[0].0
-        };
-        assert!(rt;
-            is_case_in_all_forms(rt.alloc(), &division, case)?,
-            "{first}"
-        );
+        assert!(rt; matches!(is_case_in_all_forms(rt.alloc(), &division, case), Ok(true)));
     }
-    Ok(())
-}
-
-/// Whether the complement of a set is this, and that of the complement the set again.
-fn is_complement(
-    alloc: Global,
-    division: &Division,
-    of: &[(u32, u32)],
-    want: &[(u32, u32)],
-) -> Result<bool, AllocError> {
-    let classes = classes_of(alloc, division.layout(), of)?;
-    let others = classes.negate(alloc, division.layout())?;
-    let again = others.negate(alloc, division.layout())?;
-    Ok(are(division, &others, want) && are(division, &again, of))
 }
 
 const COMPLEMENTS: [(Pairs, Pairs); 6] = [
@@ -338,60 +288,69 @@ const COMPLEMENTS: [(Pairs, Pairs); 6] = [
     (&[(1, 1), (640, 1343)], &[(0, 0), (2, 639), (1344, LAST)]),
 ];
 
-#[test]
-fn complements(rt: HostRuntime) -> Result<(), Fail> {
-    let division = fine_division(rt.alloc(), &[], 2000)?;
-    for (of, want) in &COMPLEMENTS {
-        assert!(rt; is_complement(rt.alloc(), &division, of, want)?);
-    }
-    Ok(())
-}
-
-/// Whether a set has a character, and whether its complement has one.
-fn characters_in(
-    alloc: Global,
-    division: &Division,
-    of: &[(u32, u32)],
-) -> Result<(bool, bool), AllocError> {
+/// Whether the complement of a set is this, and that of the complement the set again.
+fn is_complement(alloc: Global, division: &Division, of: Pairs, want: Pairs) -> bool {
     let layout = division.layout();
-    let classes = classes_of(alloc, layout, of)?;
-    let others = classes.negate(alloc, layout)?;
-    Ok((
-        classes.holds_character(layout),
-        others.holds_character(layout),
-    ))
+    let Ok(classes) = classes_of(alloc, layout, of) else {
+        return false;
+    };
+    let others = classes.negate(alloc, layout);
+    if !are(division, &others, want) {
+        return false;
+    }
+    match others {
+        Ok(others) => are(division, &others.negate(alloc, layout), of),
+        Err(_) => false,
+    }
 }
 
-const CHARACTERS: [(Pairs, bool, bool); 7] = [
-    (&[], false, true),
-    (&[(0, 0xD7FF)], true, true),
-    (&[(0xE000, LAST)], true, true),
-    (&[(0xD800, 0xDFFF)], false, true),
-    (&[(0xD800, 0xD801), (0xDFFF, 0xDFFF)], false, true),
-    (&[(0, 0xD7FF), (0xE000, LAST)], true, false),
-    (&[(0, LAST)], true, false),
+#[test]
+fn complements(rt: HostRuntime) {
+    let division = fine_division(rt.alloc(), &[], 2000).expect(&rt, "a division");
+    for row in &COMPLEMENTS {
+        assert!(rt; is_complement(rt.alloc(), &division, row.0, row.1));
+    }
+}
+
+/// The surrogates in a class, but for the first two and the last one.
+const SURROGATES: &[Pairs] = &[&[(0, 0xD7FF)], &[(0xD800, 0xD801)], &[(0xDFFF, 0xDFFF)]];
+
+/// A class that has the last surrogate and the characters after it.
+const BESIDE: &[Pairs] = &[&[(0xDFFF, LAST)]];
+
+/// The sets of a division, a set of classes, and whether it and its complement have a character.
+type Holding = (&'static [Pairs], Pairs, bool, bool);
+
+const CHARACTERS: [Holding; 9] = [
+    (SURROGATES, &[], false, true),
+    (SURROGATES, &[(0, 0xD7FF)], true, true),
+    (SURROGATES, &[(0xE000, LAST)], true, true),
+    (SURROGATES, &[(0xD800, 0xDFFF)], false, true),
+    (
+        SURROGATES,
+        &[(0xD800, 0xD801), (0xDFFF, 0xDFFF)],
+        false,
+        true,
+    ),
+    (SURROGATES, &[(0, 0xD7FF), (0xE000, LAST)], true, false),
+    (SURROGATES, &[(0, LAST)], true, false),
+    (BESIDE, &[(0, 0xDFFE)], true, true),
+    (BESIDE, &[(0xDFFF, LAST)], true, true),
 ];
 
-#[test]
-fn characters(rt: HostRuntime) -> Result<(), Fail> {
-    let division = division_by(
-        rt.alloc(),
-        &[&[(0, 0xD7FF)], &[(0xD800, 0xD801)], &[(0xDFFF, 0xDFFF)]],
-    )?;
-    for (of, some, others) in &CHARACTERS {
-        let (has_some, has_others) = characters_in(rt.alloc(), &division, of)?;
-        assert_eq!(rt; has_some, *some);
-        assert_eq!(rt; has_others, *others);
-    }
-    Ok(())
+/// Whether a set of classes has a character, and its complement, as a row says.
+fn is_holding(alloc: Global, row: &Holding) -> Result<bool, AllocError> {
+    let (lists, of, some, others) = *row;
+    let division = division_by(alloc, lists)?;
+    let layout = division.layout();
+    let classes = classes_of(alloc, layout, of)?;
+    let complement = classes.negate(alloc, layout)?;
+    Ok(classes.holds_character(layout) == some && complement.holds_character(layout) == others)
 }
 
 #[test]
-fn characters_beside_surrogates(rt: HostRuntime) -> Result<(), Fail> {
-    let division = division_by(rt.alloc(), &[&[(0xDFFF, LAST)]])?;
-    for (low, high) in [(0, 0xDFFE), (0xDFFF, LAST)] {
-        let (some, others) = characters_in(rt.alloc(), &division, &[(low, high)])?;
-        assert!(rt; some && others);
+fn characters(rt: HostRuntime) {
+    for row in &CHARACTERS {
+        assert!(rt; matches!(is_holding(rt.alloc(), row), Ok(true)));
     }
-    Ok(())
 }

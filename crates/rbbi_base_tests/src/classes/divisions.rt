@@ -1,11 +1,10 @@
 //! Divisions by sets, with classes worked out by hand.
 use super::{division_by, fine_division};
-use crate::ranges::LAST;
-use std::test::Fail;
+use crate::ranges::{LAST, Pairs};
 
 /// Some sets, and code points with the numbers of their classes. Classes have their numbers in the
 /// order of their first code points.
-type Classes<'a> = (&'a [&'a [(u32, u32)]], &'a [(u32, usize)]);
+type Classes = (&'static [Pairs], &'static [(u32, usize)]);
 
 const CLASSES_OF_SETS: [Classes; 10] = [
     // With no set there are surrogates and characters.
@@ -20,7 +19,7 @@ const CLASSES_OF_SETS: [Classes; 10] = [
             (LAST, 0),
         ],
     ),
-    // Nor do sets that have all or nothing tell code points apart.
+    // Nor do sets that have all or nothing distinguish code points.
     (
         &[&[(0, LAST)], &[], &[(0xD800, 0xDFFF)]],
         &[(0, 0), (0xD7FF, 0), (0xD800, 1), (0xDFFF, 1), (LAST, 0)],
@@ -127,23 +126,21 @@ const CLASSES_OF_SETS: [Classes; 10] = [
 ];
 
 #[test]
-fn classes_of_sets(rt: HostRuntime) -> Result<(), Fail> {
-    for (lists, classes) in &CLASSES_OF_SETS {
-        let division = division_by(rt.alloc(), lists)?;
-        for (c, class) in classes.iter() {
-            assert_eq!(rt; division.class_at(*c), *class);
+fn classes_of_sets(rt: HostRuntime) {
+    for row in &CLASSES_OF_SETS {
+        let division = division_by(rt.alloc(), row.0).expect(&rt, "a division");
+        for class in row.1 {
+            assert!(rt; division.class_at(class.0) == class.1, "at {}", class.0);
         }
     }
-    Ok(())
 }
 
 /// Each code point below 40 is a class, and what lies past them another.
 #[test]
-fn many_sets(rt: HostRuntime) -> Result<(), Fail> {
-    let division = fine_division(rt.alloc(), &[], 40)?;
+fn many_sets(rt: HostRuntime) {
+    let division = fine_division(rt.alloc(), &[], 40).expect(&rt, "a division");
     for c in 0u32..41 {
-        assert_eq!(rt; division.class_at(c), c as usize);
+        assert!(rt; division.class_at(c) == c as usize);
     }
-    assert_eq!(rt; division.class_at(0xD800), 41);
-    Ok(())
+    assert!(rt; division.class_at(0xD800) == 41);
 }

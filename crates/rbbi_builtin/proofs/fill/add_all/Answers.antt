@@ -1,4 +1,4 @@
--- Each token adds behind what the tokens before it added.
+-- Each token adds after what the tokens before it added.
 use Rattle.rbbi_builtin.proofs.Filling.{AddsBuiltIn-then, filled-more}
 use Rattle.rbbi_builtin.proofs.fill.add_all.Goals as goal
 

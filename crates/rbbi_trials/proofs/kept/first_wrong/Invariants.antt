@@ -1,5 +1,6 @@
+use Rattle.std.proofs.Common.{◌≡◌}
+use Rattle.rbbi_cache.specs.Kept.{AreTrueRuns}
 use Rattle.rbbi_trials.proofs.kept.first_wrong.Given as goal
 
--- a ledger of its own
-abbrev pub ghosts-first_wrong_row : goal.ghosts-first_wrong_row
-ghosts-first_wrong_row a = record { name = a.blank.name; parts = a.blank.parts }
+abbrev pub invariant-loop-i : goal.invariant-loop-i
+invariant-loop-i g l = AreTrueRuns l.table l.text.text l.cache.runs × (l.cache.slashes ≡ l.table.slashes)

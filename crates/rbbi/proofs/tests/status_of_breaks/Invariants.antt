@@ -1,5 +1,0 @@
-use Rattle.rbbi.proofs.tests.status_of_breaks.Given as goal
-
--- a ledger of its own
-abbrev pub ghosts-status_of : goal.ghosts-status_of
-ghosts-status_of a = record { name = a.blank.name; parts = a.blank.parts }

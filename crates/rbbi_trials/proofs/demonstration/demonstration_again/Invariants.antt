@@ -1,5 +1,0 @@
-use Rattle.rbbi_trials.proofs.demonstration.demonstration_again.Given as goal
-
--- a ledger of its own
-abbrev pub ghosts-summary : goal.ghosts-summary
-ghosts-summary g a = record { name = a.blank.name; parts = a.blank.parts }

@@ -1,5 +1,0 @@
-use Rattle.rbbi_trials.proofs.kept.runs_after.Given as goal
-
--- a ledger of its own
-abbrev pub ghosts-kept_after : goal.ghosts-kept_after
-ghosts-kept_after a = record { name = a.blank.name; parts = a.blank.parts }

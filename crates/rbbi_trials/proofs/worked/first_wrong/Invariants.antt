@@ -1,5 +1,0 @@
-use Rattle.rbbi_trials.proofs.worked.first_wrong.Given as goal
-
--- a ledger of its own
-abbrev pub ghosts-first_wrong_row : goal.ghosts-first_wrong_row
-ghosts-first_wrong_row a = record { name = a.blank.name; parts = a.blank.parts }

@@ -1,0 +1,5 @@
+use Rattle.rbbi_trials.proofs.worked.kept_runs_and_edits.Given as goal
+
+-- a ledger of its own
+abbrev pub ghosts-first_wrong : goal.ghosts-first_wrong
+ghosts-first_wrong g a = record { name = a.blank.name; parts = a.blank.parts }
