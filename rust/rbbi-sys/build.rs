@@ -13,7 +13,7 @@ fn folder() -> PathBuf {
     let top = Path::new(&here).join("../..");
     let build = top.join("bin/build-c");
     if build.exists() {
-        for part in ["c", "include", "tables", "out/librbbi.a"] {
+        for part in ["c", "include", "out/librbbi.a"] {
             println!("cargo:rerun-if-changed={}", top.join(part).display());
         }
         let built = Command::new(&build)
