@@ -19,7 +19,7 @@ question_of (ask.IsBoundary o) = question.IsBoundary o
 question_of ask.Current = question.Current
 question_of ask.Status = question.Status
 
--- What is told of a reply to these questions: a place or a status by its number, yes by 1 and no by 0.
+-- What is reported of a reply to these questions: a place or a status by its number, yes by 1 and no by 0.
 abbrev pub told_of : Reply → Told
 told_of (Place place) = told.Number place
 told_of Done = told.Done

@@ -31,7 +31,7 @@ pub record IsWithinLimits (rules : List Rule) : Type 0 where
   pub rows : ¬ HasTooManyRows rules
   pub statuses : ¬ HasTooManyStatuses rules
 
--- A table that is compiled from the rules where no limit is passed, and otherwise the first limit that is. `Memory` says nothing of the rules.
+-- A table that is compiled from the rules where no limit is passed, and otherwise the first limit that is. `Memory` doesn't depend on the rules.
 abbrev pub BuildsTable : List Rule → Result Table BuildErr → Type 0
 BuildsTable rules (Ok table) = IsCompiled table rules × IsWithinLimits rules
 BuildsTable rules (Err TooManySets) = HasTooManySets rules

@@ -26,7 +26,7 @@ pub record SpellBadParts (bytes : List ℕ) (error : TableErr) : Type 0 where
   pub spelled : Spell bytes parts
   pub bad : IsFirstBad (version_in bytes) parts error
 
--- The table that the bytes spell, or the first fault. `Memory` says nothing of the bytes.
+-- The table that the bytes spell, or the first fault. `Memory` doesn't depend on the bytes.
 abbrev pub ReadsTable : List ℕ → Result Table FileErr → Type 0
 ReadsTable bytes (Ok table) = IsValidTable table × IsSpelling bytes table
 ReadsTable bytes (Err BadMagic) = ¬ HasMagic bytes
@@ -35,7 +35,7 @@ ReadsTable bytes (Err (Trailing at)) = HasMagic bytes × (parts_end bytes < leng
 ReadsTable bytes (Err (Part error)) = SpellBadParts bytes error
 ReadsTable bytes (Err Memory) = Unit {0}
 
--- the answer is this table, or want of memory
+-- the answer is this table, or that memory is refused
 abbrev pub IsTableOrMemory : Table → Result Table FileErr → Type 0
 IsTableOrMemory wanted (Ok table) = table ≡ wanted
 IsTableOrMemory wanted (Err error) = error ≡ Memory

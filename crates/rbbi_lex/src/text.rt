@@ -28,8 +28,8 @@ fn characters_of(alloc: Global, text: &str) -> Result<Vec<char>, AllocError>
 /// the first place at which it spells no token: `BadEscape` at a `\` that begins no escape,
 /// `OpenQuote` at the quote and `OpenProperty` at the `\p`, `\P` or `[:` that isn't closed in its
 /// line, `BadTag` at a `{` that begins no status number up to 2,147,483,647, `BadName` at a `$` or
-/// `!!` that no name follows, and `BadChar` at a character that begins nothing. `Memory` says
-/// nothing of the text.
+/// `!!` that no name follows, and `BadChar` at a character that begins nothing. `Memory`
+/// doesn't depend on the text.
 pub fn lex(alloc: Global, text: &str) -> Result<Tokens, LexErr>
     requires { length text.now ≤ most_bytes }
     ensures exact { MatchResult result (AreTokens (chars text.now)) (TellsFault (chars text.now)) }

@@ -41,8 +41,8 @@ pub record LeadsSomewhere (rules : List Rule) (w : List ℕ) : Type 0 where
   pub are_marks : AreMarksOrNone rules (w ++ rest) marks
   pub some : marks ≢ no_marks
 
--- A table for the rules needs so many rows beside row 0: there are so many words, each two told apart, and each of which leads
--- somewhere.
+-- A table for the rules needs so many rows beside row 0: there are so many words, of which each two are distinguished, and each
+-- leads somewhere.
 pub record Needs (rules : List Rule) (count : ℕ) : Type 0 where
   pub words : List (List ℕ)
   pub many : length words ≡ count
@@ -66,11 +66,11 @@ pub record HasStatusLists (rules : List Rule) (count : ℕ) : Type 0 where
 abbrev pub IsRead : List Rule → ℕ → Type 0
 IsRead rules c = Any (λ set. Has set c) (all_sets rules)
 
--- no leaf's set tells the code points apart
+-- no leaf's set distinguishes the code points
 abbrev pub AreAlike : List Rule → ℕ → ℕ → Type 0
 AreAlike rules c d = AllByRecursion (λ set. Has set c ↔ Has set d) (all_sets rules)
 
--- Category 0 is the code points in no leaf's set. The others are the classes that the leaves' sets don't tell apart, each with a
+-- Category 0 is the code points in no leaf's set. The others are the classes that the leaves' sets don't distinguish, each with a
 -- code point, and numbered by their least: before each code point of the later of two stands one of the earlier.
 pub record AreClasses (rules : List Rule) (categories : ℕ) (ranges : List CategoryRange) : Type 0 where
   pub none : (c : ℕ) → IsCodePoint c → (category_of ranges c ≡ 0) ↔ (¬ IsRead rules c)

@@ -29,7 +29,7 @@ abbrev pub InProperty : Bool → ℕ → Type 0 → Type 0
 InProperty false c own = own
 InProperty true c own = IsCodePoint c × ¬ own
 
--- The code point is in the set. Which code points a property of a name, and perhaps a value, has is handed in.
+-- The code point is in the set. Which code points a property of a name, and perhaps a value, has is an argument.
 abbrev pub InSet : (List ℕ → Option (List ℕ) → ℕ → Type 0) → SetTree → ℕ → Type 0
 InSet HasProperty Nothing c = ⊥
 InSet HasProperty (Character d) c = c ≡ d

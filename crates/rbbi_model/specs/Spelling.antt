@@ -18,7 +18,7 @@ pub data Tree : Type 0 where
   Either : (first rest : Tree) → Tree
   Repeat : (repetition : Repetition) → (part : Tree) → Tree
 
--- so many spellings in a row make one of the repetition: any number, one or more, none or one
+-- so many consecutive spellings make one of the repetition: any number, one or more, none or one
 abbrev pub Allows : Repetition → List (List ℕ) → Type 0
 Allows Star pieces = Unit {0}
 Allows Plus pieces = pieces ≢ []

@@ -7,6 +7,6 @@ pub enum Unit {
     Chars,
     /// Bytes of the text in UTF-8.
     Utf8,
-    /// Numbers of 16 bits of the text in UTF-16.
+    /// 16-bit units of the text in UTF-16.
     Utf16,
 }

@@ -5,7 +5,7 @@ use Rattle.rbbi_model.specs.ValidTables.{AreValidRanges, AreValidLists, AreValid
 use Rattle.rbbi_table.specs.declared.error.TableErr.{TableErr}
 use Rattle.rbbi_table.specs.declared.error.TableErr.TheVariants.{BadRanges, BadLists, BadRows, BadFronts, BadSafe, Memory}
 
--- The table of the parts if all are valid, and otherwise the first part that isn't. `Memory` says nothing of them.
+-- The table of the parts if all are valid, and otherwise the first part that isn't. `Memory` doesn't depend on them.
 abbrev pub MakesTable : Table → Result Table TableErr → Type 0
 MakesTable parts (Ok table) = (table ≡ parts) × IsValidTable parts
 MakesTable parts (Err BadRanges) = ¬ AreValidRanges parts.categories parts.ranges

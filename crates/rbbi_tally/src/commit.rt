@@ -18,7 +18,7 @@ use crate::spot::Spot;
 use std::alloc::{AllocError, Global};
 
 /// Adds what is left, from a spot on, of the piece that the spot is in, moved by an edit. It gives
-/// the number of the first piece behind that.
+/// the number of the first piece after that.
 fn keep_tail(pieces: &[Piece], items: &mut Vec<Kept>, start: u32, met: Spot, edit: Edit) -> usize
     requires pieces { ArePieces pieces.now }
     requires spot { IsSpot pieces.now met }
@@ -46,7 +46,7 @@ fn keep_tail(pieces: &[Piece], items: &mut Vec<Kept>, start: u32, met: Spot, edi
     met.piece + 1
 }
 
-/// Moves the pieces from a number on, which lie behind an edit.
+/// Moves the pieces from a number on, which lie after an edit.
 fn shift_from(pieces: &mut [Piece], past: usize, edit: Edit)
     requires pieces { ArePieces pieces.old }
     requires past { past ≤ length pieces.old }
@@ -61,7 +61,7 @@ fn shift_from(pieces: &mut [Piece], past: usize, edit: Edit)
     }
 }
 
-/// Moves the pieces from a number on, which lie behind an edit.
+/// Moves the pieces from a number on, which lie after an edit.
 fn shift_behind(pieces: &mut Vec<Piece>, past: usize, edit: Edit)
     requires pieces { ArePieces pieces.old.items }
     requires past { past ≤ length pieces.old.items }
@@ -130,8 +130,8 @@ fn pieces_of(alloc: Global, start: u32, items: &[Kept]) -> Result<Vec<Piece>, Al
     Ok(pieces)
 }
 
-/// Puts the segments into the last of the first pieces, if there are few and there is memory for
-/// them, and tells whether it did.
+/// Adds the segments to the last of the first pieces, if there are few and there is memory for
+/// them, and returns whether it did.
 fn extend(pieces: &mut Vec<Piece>, front: usize, start: u32, items: &[Kept]) -> bool
     requires pieces { ArePieces pieces.old.items }
     requires within { front ≤ length pieces.old.items }
@@ -153,7 +153,7 @@ fn extend(pieces: &mut Vec<Piece>, front: usize, start: u32, items: &[Kept]) -> 
     pieces[front - 1].append(start, reach, items)
 }
 
-/// Puts new pieces behind the first ones, if there is memory for that, and tells whether it did.
+/// Inserts pieces after the first ones, if there is memory for that, and returns whether it did.
 fn insert_all(pieces: &mut Vec<Piece>, front: usize, new: Vec<Piece>) -> bool
     requires { front ≤ length pieces.old.items }
     ensures items { MatchBool result
@@ -171,7 +171,7 @@ fn insert_all(pieces: &mut Vec<Piece>, front: usize, new: Vec<Piece>) -> bool
     true
 }
 
-/// Puts a piece behind the first ones. There is room for it.
+/// Inserts a piece after the first ones. There is room for it.
 fn insert_one(pieces: &mut Vec<Piece>, front: usize, piece: Piece)
     requires within { front ≤ length pieces.old.items }
     requires room { vec_len pieces.old < vec_capacity pieces.old }
@@ -184,7 +184,7 @@ fn insert_one(pieces: &mut Vec<Piece>, front: usize, piece: Piece)
     }
 }
 
-/// Puts segments behind the first pieces, and gives how many pieces more there are. Without memory
+/// Inserts segments after the first pieces, and returns how many pieces it added. Without memory
 /// for pieces of the usual size it makes one of all, for which there is room.
 fn put(alloc: Global, pieces: &mut Vec<Piece>, front: usize, start: u32, items: Vec<Kept>) -> usize
     requires pieces { ArePieces pieces.old.items }
@@ -224,7 +224,7 @@ fn remove(pieces: &mut Vec<Piece>, low: usize, high: usize)
     }
 }
 
-/// Puts the segments of a piece behind those of the piece before it, if both are few and there is
+/// Appends the segments of a piece to those of the piece before it, if both are few and there is
 /// memory for that.
 fn join(pieces: &mut Vec<Piece>, number: usize)
     requires pieces { ArePieces pieces.old.items }
@@ -245,8 +245,8 @@ fn join(pieces: &mut Vec<Piece>, number: usize)
     }
 }
 
-/// Puts the segments that were found again in place of those from `first` up to `met`, and moves
-/// those from there on. It takes no memory that it can't do without.
+/// Replaces the segments from `first` up to `met` by those that were found again, and moves those
+/// from there on. It takes no memory that it can't do without.
 pub(crate) fn commit(
     alloc: Global,
     pieces: &mut Vec<Piece>,

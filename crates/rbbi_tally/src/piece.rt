@@ -17,7 +17,7 @@ pub(crate) const FULL: usize = 2048;
 /// How many segments a new piece has, so that edits find room in it.
 pub(crate) const FILLED: usize = 1536;
 
-/// Segments of a text, one behind the other. Their places are kept relative to the first one, so
+/// Consecutive segments of a text. Their places are kept relative to the first one, so
 /// that an edit before them moves the piece by one number.
 #[derive(Drop)]
 pub(crate) struct Piece {
@@ -102,7 +102,7 @@ impl Piece {
         self.reach = self.reach - removed + inserted;
     }
 
-    /// Puts the segments of another piece behind its own, if there is memory for them, and tells
+    /// Appends the segments of another piece to its own, if there is memory for them, and returns
     /// whether it did.
     pub(crate) fn append(&mut self, start: u32, reach: u32, items: &[Kept]) -> bool
         requires is { IsPiece self.old }

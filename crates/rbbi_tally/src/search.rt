@@ -66,8 +66,8 @@ pub(crate) struct Met {
     pub(crate) spot: Spot,
 }
 
-/// Goes on to a place of the new text. Behind the edit the old segments before it are taken from
-/// the counts, and it is told whether an old segment begins there.
+/// Goes on to a place of the new text. After the edit, it takes the old segments before the place
+/// from the counts, and returns whether an old segment begins there.
 fn meets(
     pieces: &[Piece],
     counts: &mut [u32],
@@ -95,7 +95,7 @@ fn meets(
     place_at(pieces, *spot, end) == old
 }
 
-/// Searches the new text from a boundary on, until a place behind the edit is an old boundary
+/// Searches the new text from a boundary on, until a place after the edit is an old boundary
 /// moved. It keeps and counts what it finds, and takes from the counts the old segments from
 /// `first` up to where they meet. `end` is the length of the old text.
 pub(crate) fn search_again<T: Chars, L: Ledger>(

@@ -10,7 +10,7 @@ ghost use Rattle.rbbi_tally.specs.inner.Spots.{IsFirstReaching};
 
 use crate::piece::Piece;
 
-/// A segment, by the number of its piece and its number in there. Behind the last piece, the
+/// A segment, by the number of its piece and its number in there. After the last piece, the
 /// number of the segment is 0.
 #[derive(Clone, Copy)]
 pub(crate) struct Spot {

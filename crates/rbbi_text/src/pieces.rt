@@ -102,7 +102,7 @@ impl Pieces {
     /// character of the text.
     ///
     /// Refuses `NotUtf8` where the bytes are not UTF-8, at the first byte past the longest valid
-    /// front; otherwise `TooManyChars` where they spell more than 16,777,216 characters.
+    /// prefix; otherwise `TooManyChars` where they spell more than 16,777,216 characters.
     pub fn from_raw(alloc: Global, raw: &Raw) -> Result<Pieces, RawErr>
         requires { length raw.now ≤ most_bytes }
         ensures { ReadsText raw.now result }

@@ -19,7 +19,7 @@ pub record AreCategories (steps : List Step) (sets : List (List Range)) (categor
   pub alike : (c d : ℕ) → c ≤ 0x10FFFF → d ≤ 0x10FFFF → (category_by steps categories c ≡ category_by steps categories d) ↔ AreTogether sets c d
   pub some : (c : ℕ) → c ≤ 0x10FFFF → (category_by steps categories c ≢ 0) ↔ IsHeld sets c
 
--- there are so many code points that sets hold and tell apart, each two of them
+-- there are so many code points that sets hold, and sets distinguish each two of them
 pub record HasTold (sets : List (List Range)) (count : ℕ) : Type 0 where
   pub codes : List ℕ
   pub many : length codes ≡ count

@@ -43,7 +43,7 @@ pub record AreValidParts (table : Table) : Type 0 where
   pub safe : AreValidSafePairs table
 
 -- The automaton's least table with these ranges and all safe pairs, or too many rows exactly where more than 4,095 are needed, row 0
--- counted. Want of memory tells nothing.
+-- counted. `Memory` doesn't depend on the table.
 abbrev pub GivesTable : Table → List CategoryRange → Result Table BuildErr → Type 0
 GivesTable automaton ranges (Ok table) =
     (least : Table) × IsLeastOf automaton least × (table ≡ finished least ranges table.safe) × IsValidTable table

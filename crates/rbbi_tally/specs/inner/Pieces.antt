@@ -62,6 +62,6 @@ segments_from pieces spot = drop spot.item (contents (drop spot.piece pieces))
 abbrev pub segments_before : List Piece → Spot → List Segment
 segments_before pieces spot = contents (take spot.piece pieces) ++ take spot.item (contents (drop spot.piece pieces))
 
--- the one spot isn't behind the other
+-- the one spot isn't after the other
 abbrev pub IsUpTo : Spot → Spot → Type 0
 IsUpTo first last = (first.piece < last.piece) ⊎ ((first.piece ≡ last.piece) × (first.item ≤ last.item))

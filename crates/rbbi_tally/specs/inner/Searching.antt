@@ -1,4 +1,4 @@
--- What is skipped of the old segments, and what is found anew, up to where the two meet.
+-- What is skipped of the old segments, and what is found again, up to where the two meet.
 use Rattle.std.specs.Prelude.{◌≡◌, ◌≢◌, ℕ, ◌+◌, ◌-◌, ◌<◌, ◌≤◌, Bool, false, MatchBool, List, [], ◌∷◌, ◌++◌, map, sum_by}
 use Rattle.std.specs.List.{AllByRecursion}
 use Rattle.rbbi_model.specs.Lists.{Member}
@@ -24,14 +24,14 @@ pub record IsSkipped (place : ℕ) (old rest : List Segment) (before after : Lis
   pub are_passed : ArePassed place old rest before after
   pub reached : (end : ℕ) → place ≤ end → place ≤ place_of rest end
 
--- What is gone when the search has come to a place. Before the edit that is nothing; behind it the old segments before the place moved back
+-- What is gone when the search has come to a place. Before the edit that is nothing; after it the old segments before the place moved back
 -- are, and the old and the new ones meet exactly where the rest begins there.
 pub record IsGoneTo (edit : Edit) (end place : ℕ) (meets : Bool) (old rest : List Segment) (before after : List ℕ) : Type 0 where
   pub near : place < edit.at + edit.inserted → (meets ≡ false) × (rest ≡ old) × (after ≡ before)
   pub behind : edit.at + edit.inserted ≤ place → IsSkipped (place - edit.inserted + edit.removed) old rest before after
       × MatchBool meets (place_of rest end ≡ place - edit.inserted + edit.removed) (place_of rest end ≢ place - edit.inserted + edit.removed)
 
--- the place of the new text lies behind the edit, and is an old boundary moved
+-- the place of the new text lies after the edit, and is an old boundary moved
 pub record IsMet (edit : Edit) (old : List Segment) (end place : ℕ) : Type 0 where
   pub behind : edit.at + edit.inserted ≤ place
   pub old_place : Member (places_to old end) (place - edit.inserted + edit.removed)

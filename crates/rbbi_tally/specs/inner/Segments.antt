@@ -19,7 +19,7 @@ AreSegments table x from to [] = from ≡ to
 AreSegments table x from to (segment ∷ segments) =
     (from < length x) × (segment ≡ segment_at table x from) × AreSegments table x (found table x from).at to segments
 
--- a segment behind an edit, in the new text
+-- a segment after an edit, in the new text
 abbrev pub moved : ℕ → ℕ → Segment → Segment
 moved removed inserted segment =
     record { at = segment.at + inserted - removed; look = segment.look + inserted - removed; list = segment.list }
