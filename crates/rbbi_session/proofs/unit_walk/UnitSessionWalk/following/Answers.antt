@@ -11,7 +11,8 @@ returns g c =
     let after : UnitSession = record { unit = c.self.inside.unit; asked = c.following-place.new.self } in
     let place = subst (λ s. IsPlaceUpTo s.unit s.asked.state.text c.args.o c.last_place_up_to-from.result) (sym c.self.view_is)
     c.last_place_up_to-from.ensures.past in
-    let is = subst (λ (s : UnitSession). c.last_place_up_to-from.result ≡ cond (ltb (offset_in s (length s.asked.state.text)) c.args.o) (length s.asked.state.text + 1)
+    let is = subst (λ (s : UnitSession).
+    c.last_place_up_to-from.result ≡ cond (ltb (offset_in s (length s.asked.state.text)) c.args.o) (length s.asked.state.text + 1)
     (place_before s.unit s.asked.state.text c.args.o)) (sym c.self.view_is) c.last_place_up_to-from.ensures.place in
     at_view c.self.view_is
     (unit_following before after _ _ refl

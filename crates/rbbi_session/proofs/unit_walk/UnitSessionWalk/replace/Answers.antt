@@ -67,19 +67,22 @@ returns g c =
       | in-Ok v ↦ subst (λ r. Edits unit_view before c.args.at c.args.remove (chars c.args.insert.now) r after c.args.steps.now
           c.replace.new.steps) (sym v.result-is) (unit_accepted before after c.args.at c.args.remove w c.index-first.result.at c.index-end.result.at
           c.saturating_sub.result refl k_is low first end order _ _ v.in-Ok.ensures.edited v.in-Ok.ensures.reads)
-      | in-Err-Outside v ↦ let told = rw v.in-Err-Outside.field-0-is at v.in-Err-Outside.ensures.edited in subst (λ r. Edits unit_view before c.args.at c.args.remove (chars c.args.insert.now) r after c.args.steps.now
+      | in-Err-Outside v ↦ let told = rw v.in-Err-Outside.field-0-is at v.in-Err-Outside.ensures.edited in
+          subst (λ r. Edits unit_view before c.args.at c.args.remove (chars c.args.insert.now) r after c.args.steps.now
           c.replace.new.steps) (sym v.result-is) (
             unit_not_outside before after c.args.at c.args.remove w c.index-first.result.at c.index-end.result.at
                 c.saturating_sub.result refl k_is low first end order told.0,
             (ap (λ a. record { unit = c.self.inside.unit; asked = a }) told.1, v.in-Err-Outside.ensures.reads),
           )
-      | in-Err-TooLong v ↦ let told = rw v.in-Err-TooLong.field-0-is at v.in-Err-TooLong.ensures.edited in subst (λ r. Edits unit_view before c.args.at c.args.remove (chars c.args.insert.now) r after c.args.steps.now
+      | in-Err-TooLong v ↦ let told = rw v.in-Err-TooLong.field-0-is at v.in-Err-TooLong.ensures.edited in
+          subst (λ r. Edits unit_view before c.args.at c.args.remove (chars c.args.insert.now) r after c.args.steps.now
           c.replace.new.steps) (sym v.result-is) (
             unit_too_long before after c.args.at c.args.remove w c.index-first.result.at c.index-end.result.at
                 c.saturating_sub.result refl k_is low first end order told.0,
             (ap (λ a. record { unit = c.self.inside.unit; asked = a }) told.1, v.in-Err-TooLong.ensures.reads),
           )
-      | in-Err-Memory v ↦ let told = rw v.in-Err-Memory.field-0-is at v.in-Err-Memory.ensures.edited in subst (λ r. Edits unit_view before c.args.at c.args.remove (chars c.args.insert.now) r after c.args.steps.now
+      | in-Err-Memory v ↦ let told = rw v.in-Err-Memory.field-0-is at v.in-Err-Memory.ensures.edited in
+          subst (λ r. Edits unit_view before c.args.at c.args.remove (chars c.args.insert.now) r after c.args.steps.now
           c.replace.new.steps) (sym v.result-is)
           (ap (λ a. record { unit = c.self.inside.unit; asked = a }) told, v.in-Err-Memory.ensures.reads)
     ])
