@@ -1,14 +1,14 @@
 -- A test that the rows of a table agree with the monitor of a rule, for the kernel to compute.
-use Rattle.std.proofs.Common.{◌≡◌, ℕ, zero, suc, ◌+◌, ◌*◌, ◌<◌, Bool, true, false, not, ◌&&◌, ◌||◌, cond, eqb, ltb, List, [], ◌∷◌, ◌++◌, Option, Some, None}
-use Rattle.std.proofs.Common.{get_or, drop, sym, refl, ap, ap₂, ◌∙◌, subst, ⊎_elim, arith}
+use Rattle.std.proofs.Common.{◌≡◌, ℕ, zero, suc, ◌+◌, ◌-◌, ◌*◌, ◌<◌, Bool, true, false, not, ◌&&◌, cond, eqb, ltb, List, [], ◌∷◌, ◌++◌, Option, Some}
+use Rattle.std.proofs.Common.{None, length, get_or, set, take, drop, sym, refl, ap, ap₂, ◌∙◌, subst, ⊎_elim, arith}
 use Rattle.std.specs.Bool.{beq}
-use Rattle.std.proofs.lemmas.Bool.{cases_Bool, cond-true, cond-false, and_parts, ltb-true, eqb-true, not-true, false≢true, or_right}
+use Rattle.std.proofs.lemmas.Bool.{cases_Bool, cond-true, cond-false, and_parts, and_from, ltb-true, eqb-true, not-true, false≢true}
 use Rattle.std.proofs.lemmas.List.{get_or-drop}
 use Rattle.ucd_table.proofs.TrieCheck.{all_below, all_below-at}
 use Rattle.ucd_table.proofs.Facts.{same_from_beq}
-use Rattle.rbbi_model.specs.Tables.{Table, accept_of, list_of, statuses_of, step}
+use Rattle.rbbi_model.specs.Tables.{Table, accept_of, fronts_of, list_of, statuses_of, step, completes}
 use Rattle.rbbi_annexes.proofs.Monitors.{Monitor}
-use Rattle.rbbi_annexes.proofs.Agreement.{Agree}
+use Rattle.rbbi_annexes.proofs.Agreement.{Agree, Mark, Open, Past, mark_after, mark_next, is_exact, has_front, ends_right, fronts_here}
 
 -- ---- lists
 
@@ -28,6 +28,21 @@ unfoldable pub each : {X : Type 0} → (X → Bool) → List X → Bool
 each test [] = true
 each test (x ∷ xs) = test x && each test xs
 
+pub each-get_or : {X : Type 0} (test : X → Bool) (xs : List X) (i : ℕ) (d : X) → each test xs ≡ true → test d ≡ true → test (get_or xs i d) ≡ true
+unfolding each
+each-get_or test [] i d all last = last
+each-get_or test (x ∷ xs) zero d all last = (and_parts (test x) (each test xs) all).0
+each-get_or test (x ∷ xs) (suc i) d all last = each-get_or test xs i d (and_parts (test x) (each test xs) all).1 last
+
+-- so it is enough to test the first n and the others
+pub each-parts : {X : Type 0} (test : X → Bool) (n : ℕ) (xs : List X) → each test (take n xs) ≡ true → each test (drop n xs) ≡ true → each test xs ≡ true
+unfolding each
+each-parts test zero xs first others = others
+each-parts test (suc n) [] first others = refl
+each-parts test (suc n) (x ∷ xs) first others =
+    let parts = and_parts (test x) (each test (take n xs)) first in
+    and_from (test x) (each test xs) parts.0 (each-parts test n xs parts.1 others)
+
 -- the list has an element that the test takes for the same
 unfoldable pub member : {X : Type 0} → (X → X → Bool) → X → List X → Bool
 member same x [] = false
@@ -45,13 +60,13 @@ each-member same equal test x (y ∷ ys) all is =
     (cases_Bool (same x y))
 
 -- what is reached from the first of these, and what was found before
-unfoldable pub explore : {X : Type 0} → (X → X → Bool) → (X → List X) → ℕ → List X → List X → List X
-explore same after zero todo done = done
-explore same after (suc fuel) [] done = done
-explore same after (suc fuel) (x ∷ todo) done =
-    elim (member same x done) [
-      | true ↦ explore same after fuel todo done
-      | false ↦ explore same after fuel (after x ++ todo) (x ∷ done)
+unfoldable pub explore : {X D : Type 0} → (X → D → Bool) → (X → D → D) → (X → List X) → ℕ → List X → D → D
+explore has add after zero todo done = done
+explore has add after (suc fuel) [] done = done
+explore has add after (suc fuel) (x ∷ todo) done =
+    elim (has x done) [
+      | true ↦ explore has add after fuel todo done
+      | false ↦ explore has add after fuel (after x ++ todo) (add x done)
     ]
 
 -- the elements of each list
@@ -61,26 +76,47 @@ joined (xs ∷ xss) = xs ++ joined xss
 
 -- ---- marks
 
--- for each number of what comes: None where it can't come, or else whether the last end of a rule is the first break
+-- for each number of what comes: None where it can't come, or else the search's mark
 abbrev pub Marks : Type 0
-Marks = List (Option Bool)
+Marks = List (Option Mark)
 
-unfoldable pub same_mark : Option Bool → Option Bool → Bool
+unfoldable pub same_rules : List ℕ → List ℕ → Bool
+same_rules [] [] = true
+same_rules (j ∷ js) (k ∷ ks) = eqb j k && same_rules js ks
+same_rules _ _ = false
+
+same_rules-true : (js ks : List ℕ) → same_rules js ks ≡ true → js ≡ ks
+unfolding same_rules
+same_rules-true [] [] is = refl
+same_rules-true (j ∷ js) (k ∷ ks) is =
+    let parts = and_parts (eqb j k) (same_rules js ks) is in
+    ap₂ (λ n ns. n ∷ ns) (eqb-true j k parts.0) (same_rules-true js ks parts.1)
+same_rules-true [] (k ∷ ks) is = absurd (false≢true is)
+same_rules-true (j ∷ js) [] is = absurd (false≢true is)
+
+unfoldable pub same_mark : Option Mark → Option Mark → Bool
 same_mark None None = true
-same_mark (Some a) (Some b) = beq a b
+same_mark (Some Open) (Some Open) = true
+same_mark (Some (Past a js)) (Some (Past b ks)) = beq a b && same_rules js ks
 same_mark _ _ = false
 
 unfoldable pub same_marks : Marks → Marks → Bool
 same_marks [] [] = true
-same_marks (a ∷ xs) (b ∷ ys) = same_mark a b && same_marks xs ys
+same_marks (a ∷ xs) (b ∷ ys) = let rest = same_marks xs ys in same_mark a b && rest
 same_marks _ _ = false
 
-same_mark-true : (a b : Option Bool) → same_mark a b ≡ true → a ≡ b
+same_mark-true : (a b : Option Mark) → same_mark a b ≡ true → a ≡ b
 unfolding same_mark
 same_mark-true None None is = refl
-same_mark-true (Some a) (Some b) is = ap Some (same_from_beq a b is)
+same_mark-true (Some Open) (Some Open) is = refl
+same_mark-true (Some (Past a js)) (Some (Past b ks)) is =
+    let parts = and_parts (beq a b) (same_rules js ks) is in
+    ap₂ (λ exact fronts. Some (Past exact fronts)) (same_from_beq a b parts.0) (same_rules-true js ks parts.1)
+same_mark-true (Some Open) (Some (Past b ks)) is = absurd (false≢true is)
+same_mark-true (Some (Past a js)) (Some Open) is = absurd (false≢true is)
 same_mark-true None (Some b) is = absurd (false≢true is)
-same_mark-true (Some a) None is = absurd (false≢true is)
+same_mark-true (Some Open) None is = absurd (false≢true is)
+same_mark-true (Some (Past a js)) None is = absurd (false≢true is)
 
 same_marks-true : (xs ys : Marks) → same_marks xs ys ≡ true → xs ≡ ys
 unfolding same_marks
@@ -91,21 +127,28 @@ same_marks-true (a ∷ xs) (b ∷ ys) is =
 same_marks-true [] (b ∷ ys) is = absurd (false≢true is)
 same_marks-true (a ∷ xs) [] is = absurd (false≢true is)
 
--- what is marked as not settled
-abbrev pub is_open : Option Bool → Bool
-is_open (Some false) = true
-is_open _ = false
+-- the mark passes, if there is one
+abbrev pub passed_by : (Mark → Bool) → Option Mark → Bool
+passed_by test None = true
+passed_by test (Some mark) = test mark
 
--- a mark isn't settled
-unfoldable pub some_open : Marks → Bool
-some_open [] = false
-some_open (mark ∷ marks) = is_open mark || some_open marks
+-- each mark that there is passes
+pub marks-at : (test : Mark → Bool) (marks : Marks) (p : ℕ) (mark : Mark) → each (passed_by test) marks ≡ true → get_or marks p None ≡ Some mark →
+    test mark ≡ true
+marks-at test marks p mark all is = ap (passed_by test) (sym is) ∙ each-get_or (passed_by test) marks p None all refl
 
-some_open-at : (marks : Marks) (p : ℕ) → get_or marks p None ≡ Some false → some_open marks ≡ true
-unfolding some_open
-some_open-at [] p is = absurd (false≢true (ap is_open is))
-some_open-at (mark ∷ marks) zero is = ap (λ m. is_open m || some_open marks) is
-some_open-at (mark ∷ marks) (suc p) is = or_right (is_open mark) (some_open marks) (some_open-at marks p is)
+-- some number can come
+unfoldable pub some_mark : Marks → Bool
+some_mark [] = false
+some_mark (None ∷ marks) = some_mark marks
+some_mark (Some mark ∷ marks) = true
+
+some_mark-at : (marks : Marks) (p : ℕ) (mark : Mark) → get_or marks p None ≡ Some mark → some_mark marks ≡ true
+unfolding some_mark
+some_mark-at [] p mark is = absurd (false≢true (ap (passed_by (λ m. false)) (sym is)))
+some_mark-at (None ∷ marks) zero mark is = absurd (false≢true (ap (passed_by (λ m. false)) (sym is)))
+some_mark-at (None ∷ marks) (suc p) mark is = some_mark-at marks p mark is
+some_mark-at (Some other ∷ marks) p mark is = refl
 
 -- ---- statuses
 
@@ -131,7 +174,9 @@ pub record Entry (S : Type 0) : Type 0 where
 
 module _ {S : Type 0} (same : S → S → Bool) where
   unfoldable pub same_entry : Entry S → Entry S → Bool
-  same_entry a b = eqb a.row b.row && (eqb a.label b.label && (same_marks a.marks b.marks && same a.state b.state))
+  same_entry a b =
+      let others = eqb a.label b.label && (same_marks a.marks b.marks && same a.state b.state) in
+      eqb a.row b.row && others
 
   same_entry-true : ((a b : S) → same a b ≡ true → a ≡ b) → (a b : Entry S) → same_entry a b ≡ true → a ≡ b
   unfolding same_entry
@@ -145,6 +190,16 @@ module _ {S : Type 0} (same : S → S → Bool) where
         state = equal a.state b.state rest.1 i;
         marks = same_marks-true a.marks b.marks rest.0 i;
       }
+
+  -- entries by their rows, and whether an entry is one of them
+  abbrev pub Entries : Type 0
+  Entries = List (List (Entry S))
+
+  unfoldable pub is_found : Entry S → Entries → Bool
+  is_found entry entries = member same_entry entry (get_or entries entry.row [])
+
+  unfoldable pub with_entry : Entry S → Entries → Entries
+  with_entry entry entries = set entries entry.row (entry ∷ get_or entries entry.row [])
 
   module _ (table : Table) (monitor : Monitor S) (kinds : ℕ) (lives : ℕ → Bool) where
     -- a category of the table that a character may have
@@ -168,32 +223,41 @@ module _ {S : Type 0} (same : S → S → Bool) where
     abbrev pub cells_of : ℕ → List ℕ
     cells_of row = drop (row * table.categories) table.cells
 
-    -- the mark once the character is read, with p for what comes after it
-    unfoldable pub marked : Bool → S → ℕ → ℕ → Option Bool → Option Bool
-    marked accepts state k p None = None
-    marked accepts state k p (Some settled) = Some (cond accepts (monitor.breaks state k p) settled)
+    -- the mark once the character is read, for a number of what comes before it and after it
+    unfoldable pub marked : Bool → List ℕ → ℕ → Bool → Option Mark → Option Mark
+    marked accepts here mask breaks None = None
+    marked accepts here mask breaks (Some mark) = Some (mark_after accepts here mask breaks mark)
 
-    unfoldable pub permitted : Bool → S → ℕ → ℕ → Option Bool → Bool
-    permitted accepts state k p None = true
-    permitted accepts state k p (Some settled) = cond accepts (not settled) (settled || not (monitor.breaks state k p))
+    unfoldable pub marks_after : Entry S → Bool → List ℕ → ℕ → ℕ → Marks
+    marks_after entry accepts here mask k =
+        let breaks = monitor.breaks entry.state k in
+        let ahead = monitor.ahead k in
+        values (λ p. marked accepts here mask (breaks p) (get_or entry.marks (ahead p) None)) 0 kinds
 
-    abbrev pub marks_after : Entry S → Bool → ℕ → Marks
-    marks_after entry accepts k = values (λ p. marked accepts entry.state k p (get_or entry.marks (monitor.ahead k p) None)) 0 kinds
+    -- the entry after one by each category
+    unfoldable pub after_categories : Entry S → ℕ → Entry S
+    after_categories entry =
+        let cells = cells_of entry.row in
+        let accepts = eqb (accept_of table entry.row) 1 in
+        let here = fronts_here table monitor entry.row entry.label in
+        let mask = fronts_of table entry.row in
+        let next = monitor.next entry.state in
+        λ k. record { row = get_or cells k 0; label = monitor.label entry.label k; state = next k; marks = marks_after entry accepts here mask k }
 
-    abbrev pub after_category : Entry S → Bool → List ℕ → ℕ → Entry S
-    after_category entry accepts cells k =
-        record { row = get_or cells k 0; label = monitor.label entry.label k; state = monitor.next entry.state k; marks = marks_after entry accepts k }
+    -- the row goes on: it isn't row 0, and no look-ahead rule is completed there
+    unfoldable pub goes_on : ℕ → Bool
+    goes_on row = let plain = not (completes table row) in not (eqb row 0) && plain
 
     -- the entries that may follow one
     unfoldable pub after_entry : Entry S → List (Entry S)
     after_entry entry =
         let cells = cells_of entry.row in
-        let accepts = eqb (accept_of table entry.row) 1 in
-        over_used (λ k. let next = after_category entry accepts cells k in cond (eqb (get_or cells k 0) 0) [] (next ∷ []))
+        let after = after_categories entry in
+        over_used (λ k. let next = after k ∷ [] in cond (goes_on (get_or cells k 0)) next [])
 
     -- the marks at the start of a search
-    abbrev pub first_marks : S → ℕ → Marks
-    first_marks state k = values (λ p. cond (monitor.breaks state k p) (Some false) None) 0 kinds
+    unfoldable pub first_marks : S → ℕ → Marks
+    first_marks state k = let breaks = monitor.breaks state k in values (λ p. cond (breaks p) (Some Open) None) 0 kinds
 
     abbrev pub first_entry : S → List ℕ → ℕ → Entry S
     first_entry state cells k =
@@ -203,7 +267,7 @@ module _ {S : Type 0} (same : S → S → Bool) where
     unfoldable pub entries_from : S → List (Entry S)
     entries_from state =
         let cells = cells_of 1 in
-        over_used (λ k. let entry = first_entry state cells k in cond (some_open (first_marks state k)) (entry ∷ []) [])
+        over_used (λ k. let entry = first_entry state cells k in cond (some_mark entry.marks) (entry ∷ []) [])
 
     unfoldable pub starts : List S → List (Entry S)
     starts [] = []
@@ -211,68 +275,78 @@ module _ {S : Type 0} (same : S → S → Bool) where
 
     -- the states that a text leads to
     unfoldable pub states_found : ℕ → List S
-    states_found fuel = explore same (λ state. over_used (λ k. monitor.next state k ∷ [])) fuel (monitor.start ∷ []) []
+    states_found fuel =
+        explore (member same) (λ state states. state ∷ states) (λ state. over_used (λ k. monitor.next state k ∷ [])) fuel (monitor.start ∷ []) []
 
     -- the entries that searches reach
-    unfoldable pub entries_found : ℕ → List S → List (Entry S)
-    entries_found fuel states = explore same_entry after_entry fuel (starts states) []
+    unfoldable pub entries_found : ℕ → List S → Entries
+    entries_found fuel states = explore is_found with_entry after_entry fuel (starts states) (values (λ row. []) 0 (length table.rows))
 
     unfoldable pub numbers_pass : Bool
     numbers_pass = ltb monitor.nothing kinds && all_used (λ k. all_below (λ p. ltb (monitor.ahead k p) kinds) kinds)
 
-    module _ (states : List S) (entries : List (Entry S)) where
+    module _ (states : List S) (entries : Entries) where
+      -- what is tested of the first entry of a search
+      unfoldable pub is_begun : Entry S → Bool
+      is_begun entry = let found = is_found entry entries in goes_on entry.row && found
+
       unfoldable pub begins_at : S → List ℕ → ℕ → Bool
       begins_at state cells k =
-          let found = not (eqb (get_or cells k 0) 0) && member same_entry (first_entry state cells k) entries in
-          cond (some_open (first_marks state k)) found true
+          let entry = first_entry state cells k in
+          let begun = is_begun entry in
+          cond (some_mark entry.marks) begun true
 
       unfoldable pub state_passes : S → Bool
       state_passes state =
           let cells = cells_of 1 in
           all_used (λ k. member same (monitor.next state k) states && begins_at state cells k)
 
-      unfoldable pub end_passes : Bool → Option Bool → Bool
-      end_passes accepts None = true
-      end_passes accepts (Some settled) = beq accepts (not settled)
-
       -- the status at the row is the one by the label
       unfoldable pub is_named : Entry S → Bool
       is_named entry = is_only (monitor.status entry.label) (statuses_of table (list_of table entry.row))
 
-      unfoldable pub goes_at : Entry S → Bool → List ℕ → ℕ → Bool
-      goes_at entry accepts cells k =
-          let found = member same_entry (after_category entry accepts cells k) entries in
-          cond (eqb (get_or cells k 0) 0) (not (some_open (marks_after entry accepts k))) found
+      -- a search that completes a look-ahead rule at the entry has its cut at the first break
+      unfoldable pub is_cut : Entry S → Bool
+      is_cut entry =
+          each (passed_by (has_front (accept_of table entry.row - 2))) entry.marks && is_only 0 (statuses_of table (list_of table entry.row))
+
+      -- what is tested of an entry that a search comes to
+      unfoldable pub is_right : Entry S → Bool
+      is_right entry =
+          let dead = each (passed_by is_exact) entry.marks in
+          let cut = is_cut entry in
+          let found = is_found entry entries in
+          let on = cond (completes table entry.row) cut found in
+          cond (eqb entry.row 0) dead on
 
       unfoldable pub entry_passes : Entry S → Bool
       entry_passes entry =
-          let cells = cells_of entry.row in
+          let after = after_categories entry in
           let accepts = eqb (accept_of table entry.row) 1 in
           let named = is_named entry in
-          end_passes accepts (get_or entry.marks monitor.nothing None)
-          && (cond accepts named true && all_used (λ k. all_below (λ p. permitted accepts entry.state k p (get_or entry.marks
-          (monitor.ahead k p) None)) kinds && goes_at entry accepts cells k))
+          passed_by (ends_right accepts) (get_or entry.marks monitor.nothing None)
+          && (cond accepts named true && all_used (λ k. is_right (after k)))
 
       unfoldable pub passes : Bool
-      passes = member same monitor.start states && (numbers_pass && (each state_passes states && each entry_passes entries))
+      passes = member same monitor.start states && (numbers_pass && (each state_passes states && each (each entry_passes) entries))
 
       -- the state is one of those
       abbrev pub IsState : S → Type 0
       IsState m = member same m states ≡ true
 
       -- a search reaches the row in this state, with this mark for p, and with the label t
-      abbrev pub IsReached : ℕ → S → ℕ → ℕ → Bool → Type 0
-      IsReached row m p t settled =
-          (marks : Marks) × (member same_entry (record { row = row; label = t; state = m; marks = marks }) entries ≡ true)
-          × (get_or marks p None ≡ Some settled)
+      abbrev pub IsReached : ℕ → S → ℕ → ℕ → Mark → Type 0
+      IsReached row m p t mark =
+          (marks : Marks) × (is_found (record { row = row; label = t; state = m; marks = marks }) entries ≡ true) × (get_or marks p None ≡ Some mark)
 
       module _ (equal : (a b : S) → same a b ≡ true → a ≡ b) (ok : passes ≡ true) where
-        parts : (member same monitor.start states ≡ true) × (numbers_pass ≡ true) × (each state_passes states ≡ true) × (each entry_passes entries ≡ true)
+        parts : (member same monitor.start states ≡ true) × (numbers_pass ≡ true) × (each state_passes states ≡ true)
+            × (each (each entry_passes) entries ≡ true)
         unfolding passes
         parts =
-            let start = and_parts (member same monitor.start states) (numbers_pass && (each state_passes states && each entry_passes entries)) ok in
-            let numbers = and_parts numbers_pass (each state_passes states && each entry_passes entries) start.1 in
-            let lists = and_parts (each state_passes states) (each entry_passes entries) numbers.1 in
+            let start = and_parts (member same monitor.start states) (numbers_pass && (each state_passes states && each (each entry_passes) entries)) ok in
+            let numbers = and_parts numbers_pass (each state_passes states && each (each entry_passes) entries) start.1 in
+            let lists = and_parts (each state_passes states) (each (each entry_passes) entries) numbers.1 in
             (start.0, numbers.0, lists.0, lists.1)
 
         nothing_within : monitor.nothing < kinds
@@ -294,6 +368,12 @@ module _ {S : Type 0} (same : S → S → Bool) where
         value_at : {X : Type 0} (f : ℕ → X) (p : ℕ) (d : X) → p < kinds → get_or (values f 0 kinds) p d ≡ f p
         value_at f p d few = get_or-values f 0 kinds p d few ∙ ap f (let e : 0 + p ≡ p = omega arith in e)
 
+        goes_on_parts : (row : ℕ) → goes_on row ≡ true → (eqb row 0 ≡ false) × (completes table row ≡ false)
+        unfolding goes_on
+        goes_on_parts row is =
+            let both = and_parts (not (eqb row 0)) (not (completes table row)) is in
+            (not-true (eqb row 0) both.0, not-true (completes table row) both.1)
+
         -- what was tested of a state and a category
         state_at : (m : S) (k : ℕ) → IsUsed k → IsState m →
             (member same (monitor.next m k) states ≡ true) × (begins_at m (cells_of 1) k ≡ true)
@@ -304,106 +384,121 @@ module _ {S : Type 0} (same : S → S → Bool) where
             (all_used-at test (each-member same equal state_passes m states parts.2 is) k of)
 
         begins : (m : S) (k p : ℕ) → IsUsed k → p < kinds → IsState m → monitor.breaks m k p ≡ true →
-            (eqb (step table 1 k) 0 ≡ false) × IsReached (step table 1 k) (monitor.next m k) p (monitor.label 0 k) false
-        unfolding begins_at
+            (eqb (step table 1 k) 0 ≡ false) × (completes table (step table 1 k) ≡ false)
+            × IsReached (step table 1 k) (monitor.next m k) p (monitor.label 0 k) Open
+        unfolding begins_at is_begun first_marks
         begins m k p of few is breaks =
-            let cells : List ℕ = cells_of 1 in
-            let mark : get_or (first_marks m k) p None ≡ Some false =
-            value_at (λ q. cond (monitor.breaks m k q) (Some false) None) p None few
-            ∙ cond-true (monitor.breaks m k p) (Some false) None breaks in
-            let found : Bool = not (eqb (get_or cells k 0) 0) && member same_entry (first_entry m cells k) entries in
-            let both = and_parts (not (eqb (get_or cells k 0) 0)) (member same_entry (first_entry m cells k) entries)
-            (sym (cond-true (some_open (first_marks m k)) found true (some_open-at (first_marks m k) p mark)) ∙ (state_at m k of is).1) in (
-              ap (λ c. eqb c 0) (sym (cell_is 1 k)) ∙ not-true (eqb (get_or cells k 0) 0) both.0,
-              subst (λ r. IsReached r (monitor.next m k) p (monitor.label 0 k) false) (cell_is 1 k) (first_marks m k, both.1, mark),
+            let entry : Entry S = first_entry m (cells_of 1) k in
+            let mark : get_or entry.marks p None ≡ Some Open =
+            value_at (λ q. cond (monitor.breaks m k q) (Some Open) None) p None few ∙ cond-true (monitor.breaks m k p) (Some Open) None breaks in
+            let both = and_parts (goes_on entry.row) (is_found entry entries)
+            (sym (cond-true (some_mark entry.marks) (is_begun entry) true (some_mark-at entry.marks p Open mark)) ∙ (state_at m k of is).1) in
+            let goes = goes_on_parts entry.row both.0 in (
+              ap (λ c. eqb c 0) (sym (cell_is 1 k)) ∙ goes.0,
+              ap (completes table) (sym (cell_is 1 k)) ∙ goes.1,
+              subst (λ r. IsReached r (monitor.next m k) p (monitor.label 0 k) Open) (cell_is 1 k) (entry.marks, both.1, mark),
             )
 
         -- what was tested of an entry
         abbrev accepts_at : ℕ → Bool
         accepts_at row = eqb (accept_of table row) 1
 
-        entry_at : (entry : Entry S) → member same_entry entry entries ≡ true →
-            (end_passes (accepts_at entry.row) (get_or entry.marks monitor.nothing None) ≡ true)
+        found_passes : (entry : Entry S) → is_found entry entries ≡ true → entry_passes entry ≡ true
+        unfolding is_found each
+        found_passes entry is =
+            each-member same_entry (same_entry-true equal) entry_passes entry (get_or entries entry.row [])
+            (each-get_or (each entry_passes) entries entry.row [] parts.3 refl) is
+
+        entry_at : (entry : Entry S) → is_found entry entries ≡ true →
+            (passed_by (ends_right (accepts_at entry.row)) (get_or entry.marks monitor.nothing None) ≡ true)
             × (cond (accepts_at entry.row) (is_named entry) true ≡ true)
-            × ((k : ℕ) → IsUsed k →
-            ((p : ℕ) → p < kinds → permitted (accepts_at entry.row) entry.state k p (get_or entry.marks (monitor.ahead k p) None) ≡ true)
-            × (goes_at entry (accepts_at entry.row) (cells_of entry.row) k ≡ true))
+            × ((k : ℕ) → IsUsed k → is_right (after_categories entry k) ≡ true)
         unfolding entry_passes
         entry_at entry is =
-            let permits : ℕ → ℕ → Bool = λ k p. permitted (accepts_at entry.row) entry.state k p (get_or entry.marks (monitor.ahead k p) None) in
-            let goes : ℕ → Bool = goes_at entry (accepts_at entry.row) (cells_of entry.row) in
-            let all : Bool = all_used (λ k. all_below (permits k) kinds && goes k) in
-            let tested = and_parts (end_passes (accepts_at entry.row) (get_or entry.marks monitor.nothing None))
-            (cond (accepts_at entry.row) (is_named entry) true && all)
-            (each-member same_entry (same_entry-true equal) entry_passes entry entries parts.3 is) in
-            let rest = and_parts (cond (accepts_at entry.row) (is_named entry) true) all tested.1 in (
-              tested.0,
-              rest.0,
-              λ k of.
-                  let both = and_parts (all_below (permits k) kinds) (goes k) (all_used-at (λ j. all_below (permits j) kinds && goes j) rest.1 k of) in
-                  (λ p few. all_below-at (permits k) kinds p both.0 few, both.1),
-            )
+            let right : ℕ → Bool = λ k. is_right (after_categories entry k) in
+            let tested = and_parts (passed_by (ends_right (accepts_at entry.row)) (get_or entry.marks monitor.nothing None))
+            (cond (accepts_at entry.row) (is_named entry) true && all_used right) (found_passes entry is) in
+            let rest = and_parts (cond (accepts_at entry.row) (is_named entry) true) (all_used right) tested.1 in
+            (tested.0, rest.0, all_used-at right rest.1)
 
-        names : (row : ℕ) (m : S) (p t : ℕ) (settled : Bool) → IsReached row m p t settled → eqb (accept_of table row) 1 ≡ true →
+        abbrev entry_of : (row : ℕ) (m : S) (p t : ℕ) (mark : Mark) → IsReached row m p t mark → Entry S
+        entry_of row m p t mark is = record { row = row; label = t; state = m; marks = is.0 }
+
+        names : (row : ℕ) (m : S) (p t : ℕ) (mark : Mark) → IsReached row m p t mark → eqb (accept_of table row) 1 ≡ true →
             statuses_of table (list_of table row) ≡ monitor.status t ∷ []
         unfolding is_named
-        names row m p t settled is accepts =
-            let entry : Entry S = record { row = row; label = t; state = m; marks = is.0 } in
+        names row m p t mark is accepts =
+            let entry : Entry S = entry_of row m p t mark is in
             is_only-true (monitor.status t) (statuses_of table (list_of table row))
             (sym (cond-true (accepts_at row) (is_named entry) true accepts) ∙ (entry_at entry is.1).1)
 
-        ends : (row : ℕ) (m : S) (t : ℕ) (settled : Bool) → IsReached row m monitor.nothing t settled → eqb (accept_of table row) 1 ≡ not settled
-        unfolding end_passes
-        ends row m t settled is =
-            let entry : Entry S = record { row = row; label = t; state = m; marks = is.0 } in
-            same_from_beq (accepts_at row) (not settled) (ap (end_passes (accepts_at row)) (sym is.2) ∙ (entry_at entry is.1).0)
+        ends : (row : ℕ) (m : S) (t : ℕ) (mark : Mark) → IsReached row m monitor.nothing t mark → ends_right (eqb (accept_of table row) 1) mark ≡ true
+        ends row m t mark is =
+            ap (passed_by (ends_right (accepts_at row))) (sym is.2) ∙ (entry_at (entry_of row m monitor.nothing t mark is) is.1).0
 
-        allows : (row : ℕ) (m : S) (k p t : ℕ) (settled : Bool) → IsUsed k → p < kinds → IsReached row m (monitor.ahead k p) t settled →
-            cond (eqb (accept_of table row) 1) (not settled) (settled || not (monitor.breaks m k p)) ≡ true
-        unfolding permitted
-        allows row m k p t settled of few is =
-            let entry : Entry S = record { row = row; label = t; state = m; marks = is.0 } in
-            ap (permitted (accepts_at row) m k p) (sym is.2) ∙ ((entry_at entry is.1).2 k of).0 p few
+        mark_then : (row : ℕ) (m : S) (k p t : ℕ) (mark : Mark) → p < kinds → (is : IsReached row m (monitor.ahead k p) t mark) →
+            get_or (after_categories (entry_of row m (monitor.ahead k p) t mark is) k).marks p None ≡ Some (mark_next table monitor row m k p t mark)
+        unfolding marked marks_after after_categories
+        mark_then row m k p t mark few is =
+            value_at (λ q. marked (accepts_at row) (fronts_here table monitor row t) (fronts_of table row) (monitor.breaks m k q)
+            (get_or is.0 (monitor.ahead k q) None)) p None few
+            ∙ ap (marked (accepts_at row) (fronts_here table monitor row t) (fronts_of table row) (monitor.breaks m k p)) is.2
 
-        mark_after : (row : ℕ) (m : S) (k p t : ℕ) (settled : Bool) → p < kinds → (is : IsReached row m (monitor.ahead k p) t settled) →
-            get_or (marks_after (record { row = row; label = t; state = m; marks = is.0 }) (accepts_at row) k) p None
-            ≡ Some (cond (accepts_at row) (monitor.breaks m k p) settled)
-        unfolding marked
-        mark_after row m k p t settled few is =
-            value_at (λ q. marked (accepts_at row) m k q (get_or is.0 (monitor.ahead k q) None)) p None few
-            ∙ ap (marked (accepts_at row) m k p) is.2
+        dies : (row : ℕ) (m : S) (k p t : ℕ) (mark : Mark) → IsUsed k → p < kinds → IsReached row m (monitor.ahead k p) t mark →
+            eqb (step table row k) 0 ≡ true → is_exact (mark_next table monitor row m k p t mark) ≡ true
+        unfolding is_right after_categories
+        dies row m k p t mark of few is none =
+            let entry : Entry S = entry_of row m (monitor.ahead k p) t mark is in
+            let next : Entry S = after_categories entry k in
+            let dead : Bool = each (passed_by is_exact) next.marks in
+            marks-at is_exact next.marks p (mark_next table monitor row m k p t mark)
+            (sym (cond-true (eqb next.row 0) dead (cond (completes table next.row) (is_cut next) (is_found next entries))
+            (ap (λ c. eqb c 0) (cell_is row k) ∙ none)) ∙ (entry_at entry is.1).2 k of)
+            (mark_then row m k p t mark few is)
 
-        dies : (row : ℕ) (m : S) (k p t : ℕ) (settled : Bool) → IsUsed k → p < kinds → IsReached row m (monitor.ahead k p) t settled →
-            eqb (step table row k) 0 ≡ true → cond (eqb (accept_of table row) 1) (monitor.breaks m k p) settled ≡ true
-        unfolding goes_at
-        dies row m k p t settled of few is none =
-            let entry : Entry S = record { row = row; label = t; state = m; marks = is.0 } in
-            let cells : List ℕ = cells_of row in
-            let marks : Marks = marks_after entry (accepts_at row) k in
-            let mark : Bool = cond (accepts_at row) (monitor.breaks m k p) settled in
-            let found : Bool = member same_entry (after_category entry (accepts_at row) cells k) entries in
-            let shut = not-true (some_open marks)
-            (sym (cond-true (eqb (get_or cells k 0) 0) (not (some_open marks)) found (ap (λ c. eqb c 0) (cell_is row k) ∙ none))
-            ∙ ((entry_at entry is.1).2 k of).1) in
-            ⊎_elim
-            (λ holds. holds)
-            (λ fails. absurd (false≢true (sym shut ∙ some_open-at marks p (mark_after row m k p t settled few is ∙ ap Some fails))))
-            (cases_Bool mark)
-
-        goes : (row : ℕ) (m : S) (k p t : ℕ) (settled : Bool) → IsUsed k → p < kinds → IsReached row m (monitor.ahead k p) t settled →
+        -- where the search isn't at row 0
+        right_on : (row : ℕ) (m : S) (k p t : ℕ) (mark : Mark) → IsUsed k → (is : IsReached row m (monitor.ahead k p) t mark) →
             eqb (step table row k) 0 ≡ false →
-            IsReached (step table row k) (monitor.next m k) p (monitor.label t k) (cond (eqb (accept_of table row) 1) (monitor.breaks m k p) settled)
-        unfolding goes_at
-        goes row m k p t settled of few is some =
-            let entry : Entry S = record { row = row; label = t; state = m; marks = is.0 } in
-            let cells : List ℕ = cells_of row in
-            let marks : Marks = marks_after entry (accepts_at row) k in
-            let found : Bool = member same_entry (after_category entry (accepts_at row) cells k) entries in
-            subst (λ r. IsReached r (monitor.next m k) p (monitor.label t k) (cond (accepts_at row) (monitor.breaks m k p) settled)) (cell_is row k) (
-              marks,
-              sym (cond-false (eqb (get_or cells k 0) 0) (not (some_open marks)) found (ap (λ c. eqb c 0) (cell_is row k) ∙ some))
-                  ∙ ((entry_at entry is.1).2 k of).1,
-              mark_after row m k p t settled few is,
+            cond (completes table (get_or (cells_of row) k 0)) (is_cut (after_categories (entry_of row m (monitor.ahead k p) t mark is) k))
+            (is_found (after_categories (entry_of row m (monitor.ahead k p) t mark is) k) entries) ≡ true
+        unfolding is_right after_categories
+        right_on row m k p t mark of is some =
+            let entry : Entry S = entry_of row m (monitor.ahead k p) t mark is in
+            let next : Entry S = after_categories entry k in
+            sym (cond-false (eqb next.row 0) (each (passed_by is_exact) next.marks) (cond (completes table next.row) (is_cut next) (is_found next entries))
+            (ap (λ c. eqb c 0) (cell_is row k) ∙ some)) ∙ (entry_at entry is.1).2 k of
+
+        cuts : (row : ℕ) (m : S) (k p t : ℕ) (mark : Mark) → IsUsed k → p < kinds → IsReached row m (monitor.ahead k p) t mark →
+            eqb (step table row k) 0 ≡ false → completes table (step table row k) ≡ true →
+            (has_front (accept_of table (step table row k) - 2) (mark_next table monitor row m k p t mark) ≡ true)
+            × (statuses_of table (list_of table (step table row k)) ≡ 0 ∷ [])
+        unfolding is_cut after_categories
+        cuts row m k p t mark of few is some completed =
+            let entry : Entry S = entry_of row m (monitor.ahead k p) t mark is in
+            let next : Entry S = after_categories entry k in
+            let later : Mark = mark_next table monitor row m k p t mark in
+            let cut = sym (cond-true (completes table next.row) (is_cut next) (is_found next entries) (ap (completes table) (cell_is row k) ∙ completed))
+            ∙ right_on row m k p t mark of is some in
+            let both = and_parts (each (passed_by (has_front (accept_of table next.row - 2))) next.marks)
+            (is_only 0 (statuses_of table (list_of table next.row))) cut in (
+              ap (λ r. has_front (accept_of table r - 2) later) (sym (cell_is row k))
+                  ∙ marks-at (has_front (accept_of table next.row - 2)) next.marks p later both.0 (mark_then row m k p t mark few is),
+              ap (λ r. statuses_of table (list_of table r)) (sym (cell_is row k))
+                  ∙ is_only-true 0 (statuses_of table (list_of table next.row)) both.1,
+            )
+
+        goes : (row : ℕ) (m : S) (k p t : ℕ) (mark : Mark) → IsUsed k → p < kinds → IsReached row m (monitor.ahead k p) t mark →
+            eqb (step table row k) 0 ≡ false → completes table (step table row k) ≡ false →
+            IsReached (step table row k) (monitor.next m k) p (monitor.label t k) (mark_next table monitor row m k p t mark)
+        unfolding after_categories
+        goes row m k p t mark of few is some plain =
+            let entry : Entry S = entry_of row m (monitor.ahead k p) t mark is in
+            let next : Entry S = after_categories entry k in
+            subst (λ r. IsReached r (monitor.next m k) p (monitor.label t k) (mark_next table monitor row m k p t mark)) (cell_is row k) (
+              next.marks,
+              sym (cond-false (completes table next.row) (is_cut next) (is_found next entries) (ap (completes table) (cell_is row k) ∙ plain))
+                  ∙ right_on row m k p t mark of is some,
+              mark_then row m k p t mark few is,
             )
 
         pub agrees : Agree table monitor kinds IsUsed IsState IsReached
@@ -416,7 +511,7 @@ module _ {S : Type 0} (same : S → S → Bool) where
               begins = begins;
               names = names;
               ends = ends;
-              allows = allows;
               dies = dies;
+              cuts = cuts;
               goes = goes;
             }

@@ -6,6 +6,10 @@ pub mod Agreement
 pub mod Checker
 pub mod Categories
 pub mod Reading
+pub mod Numbered
+pub mod LineFacts
+pub mod LineMonitor
+pub mod LineStatuses
 pub mod Checked
 pub mod Graphemes
 pub mod Words

@@ -3,4 +3,5 @@ pub mod Statuses
 pub mod LineNames
 pub mod LineBreaks
 pub mod LineTexts
+pub mod LineBoundaries
 pub mod inner

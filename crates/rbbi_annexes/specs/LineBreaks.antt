@@ -1,5 +1,5 @@
 -- Line breaks, by the rules LB1 to LB31 of UAX #14 as of Unicode 17.0, over the properties of 18.0.
-use Rattle.std.specs.Prelude.{ℕ, Bool, true, false, not, ◌&&◌, ◌||◌, ◌==◌, List, [], ◌∷◌, slice_get, Option, Some, None, is_none, if◌then◌else◌}
+use Rattle.std.specs.Prelude.{ℕ, Bool, false, not, ◌&&◌, ◌||◌, ◌==◌, List, [], ◌∷◌, slice_get, Option, Some, None, is_none, if◌then◌else◌}
 use Rattle.ucd_breaks.specs.LineBreak.{line_break, line_break_eq}
 use Rattle.ucd_breaks.specs.declared.LineBreak.{LineBreak}
 use Rattle.rbbi_annexes.specs.LineNames.{AI, AK, AL, AP, AS, B2, BA, BB, BK, CB, CJ, CL, CM, CP, CR, EB, EM, EX, GL, H2, H3, HH, HL, HY, ID, IN, IS, JL, JT, JV}
@@ -94,13 +94,13 @@ items_before (c ∷ before) =
     let items = items_before before in
     if is_mark item && takes_marks (slice_get items 0) then items else alone item ∷ items
 
--- the items of the characters behind an item, but for marks that count as a part of it
-unfoldable pub items_behind : Option Item → List ℕ → List Item
-items_behind last [] = []
-items_behind last (c ∷ behind) =
+-- the items of the characters after an item, but for marks that count as a part of it
+unfoldable pub items_after : Option Item → List ℕ → List Item
+items_after last [] = []
+items_after last (c ∷ after) =
     let item = item_of c in
-    let same = items_behind last behind in
-    let further = alone item ∷ items_behind (Some (alone item)) behind in
+    let same = items_after last after in
+    let further = alone item ∷ items_after (Some (alone item)) after in
     if is_mark item && takes_marks last then same else further
 
 -- ---- what stands on the left and on the right of a place, counted away from it
@@ -145,9 +145,9 @@ left_of before =
     }
 
 unfoldable pub right_of : ℕ → List ℕ → Right
-right_of next behind =
+right_of next after =
     let item = item_of next in
-    let items = items_behind (Some (alone item)) behind in
+    let items = items_after (Some (alone item)) after in
     record { mark = is_mark item; first = Some (alone item); second = slice_get items 0; third = slice_get items 1 }
 
 -- ---- the rules
@@ -248,8 +248,8 @@ by_rules l r =
     else (if is SP l.first && is IS r.first && is NU r.second then MayBreak  -- LB15c
     else by_later_rules l r))))))
 
--- whether a line must, may or can't be broken between the characters before a place, nearest first, and those behind it
+-- whether a line must, may or can't be broken between the characters before a place, nearest first, and those after it
 unfoldable pub line_verdict : List ℕ → List ℕ → Verdict
-line_verdict [] behind = NoBreak  -- LB2
+line_verdict [] after = NoBreak  -- LB2
 line_verdict (last ∷ before) [] = MustBreak  -- LB3
-line_verdict (last ∷ before) (next ∷ behind) = by_rules (left_of (last ∷ before)) (right_of next behind)
+line_verdict (last ∷ before) (next ∷ after) = by_rules (left_of (last ∷ before)) (right_of next after)

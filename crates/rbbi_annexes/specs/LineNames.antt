@@ -2,9 +2,11 @@
 pub use Rattle.ucd_breaks.specs.declared.LineBreak.TheVariants.{Ambiguous as AI, Aksara as AK, Alphabetic as AL, AksaraPrebase as AP, AksaraStart as AS}
 pub use Rattle.ucd_breaks.specs.declared.LineBreak.TheVariants.{BreakBoth as B2, BreakAfter as BA, BreakBefore as BB, MandatoryBreak as BK}
 pub use Rattle.ucd_breaks.specs.declared.LineBreak.TheVariants.{ContingentBreak as CB, ConditionalJapaneseStarter as CJ, ClosePunctuation as CL}
-pub use Rattle.ucd_breaks.specs.declared.LineBreak.TheVariants.{CombiningMark as CM, CloseParenthesis as CP, CarriageReturn as CR, EBase as EB, EModifier as EM}
-pub use Rattle.ucd_breaks.specs.declared.LineBreak.TheVariants.{Exclamation as EX, Glue as GL, H2, H3, UnambiguousHyphen as HH, HebrewLetter as HL, Hyphen as HY}
-pub use Rattle.ucd_breaks.specs.declared.LineBreak.TheVariants.{Ideographic as ID, Inseparable as IN, InfixNumeric as IS, Jl as JL, Jt as JT, Jv as JV}
+pub use Rattle.ucd_breaks.specs.declared.LineBreak.TheVariants.{CombiningMark as CM, CloseParenthesis as CP, CarriageReturn as CR}
+pub use Rattle.ucd_breaks.specs.declared.LineBreak.TheVariants.{EBase as EB, EModifier as EM}
+pub use Rattle.ucd_breaks.specs.declared.LineBreak.TheVariants.{Exclamation as EX, Glue as GL, H2, H3, UnambiguousHyphen as HH}
+pub use Rattle.ucd_breaks.specs.declared.LineBreak.TheVariants.{HebrewLetter as HL, Hyphen as HY, Ideographic as ID, Inseparable as IN}
+pub use Rattle.ucd_breaks.specs.declared.LineBreak.TheVariants.{InfixNumeric as IS, Jl as JL, Jt as JT, Jv as JV}
 pub use Rattle.ucd_breaks.specs.declared.LineBreak.TheVariants.{LineFeed as LF, NextLine as NL, Nonstarter as NS, Numeric as NU, OpenPunctuation as OP}
 pub use Rattle.ucd_breaks.specs.declared.LineBreak.TheVariants.{PostfixNumeric as PO, PrefixNumeric as PR, Quotation as QU, RegionalIndicator as RI}
 pub use Rattle.ucd_breaks.specs.declared.LineBreak.TheVariants.{ComplexContext as SA, Surrogate as SG, Space as SP, BreakSymbols as SY, ViramaFinal as VF}

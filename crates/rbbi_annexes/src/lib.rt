@@ -1,8 +1,9 @@
-//! The boundaries of UAX #29: what it means that a table gives them, and how a table is shown to.
-//! And the line breaks of UAX #14: their definition, and a plain program that computes it.
+//! The boundaries of UAX #29 and of UAX #14: what it means that a table gives them, and how a table
+//! is shown to. And a plain program that computes the line breaks.
 //!
-//! The rules of UAX #29 are those of the library `unicode_segmentation`. The function on them
-//! carries no code: it states a law of the definitions as its contract.
+//! The rules of UAX #29 are those of the library `unicode_segmentation`; those of UAX #14 are
+//! defined here. The functions on them carry no code: they state laws of the definitions as their
+//! contracts.
 #![tactic(auto)]
 
 mod lines;
@@ -12,6 +13,7 @@ ghost use Rattle.unicode_segmentation.specs.Grapheme.{is_grapheme_break};
 ghost use Rattle.unicode_segmentation.specs.Sentence.{is_sentence_break};
 ghost use Rattle.unicode_segmentation.specs.Word.{is_word_break};
 ghost use Rattle.rbbi_annexes.specs.Breaks.{BreaksAreEnds};
+ghost use Rattle.rbbi_annexes.specs.LineBoundaries.{MustBreaksHaveStatus100};
 
 pub use lines::{Verdict, line_verdicts};
 
@@ -21,4 +23,9 @@ pub fn breaks_are_the_ends_of_segments()
     ensures graphemes { BreaksAreEnds (is_grapheme_break true) }
     ensures words { BreaksAreEnds is_word_break }
     ensures sentences { BreaksAreEnds is_sentence_break }
+{}
+
+/// Inside a text a line must be broken exactly where one ends that has status 100.
+pub fn lines_must_be_broken_at_status_100()
+    ensures { MustBreaksHaveStatus100 }
 {}

@@ -2,14 +2,14 @@
 use Rattle.std.proofs.Common.{◌≡◌, ◌≤◌, ℕ, Bool, true, not, eqb, leb, get_or, List, length, refl, inl}
 use Rattle.std.proofs.lemmas.Bool.{leb-true}
 use Rattle.unicode_segmentation.specs.Grapheme.{is_grapheme_break}
-use Rattle.rbbi_model.specs.Tables.{Table}
+use Rattle.rbbi_model.specs.Tables.{Table, category_of}
 use Rattle.rbbi_model.specs.TableFile.{spelling}
 use Rattle.rbbi_text.specs.Bytes.{most_bytes}
 use Rattle.rbbi_annexes.specs.Breaks.{SpellTable, SpellBreaksBy}
 use Rattle.rbbi_annexes.specs.Statuses.{grapheme_status, SpellBoundaries}
 use Rattle.rbbi_annexes.proofs.Categories.{classes_fit}
 use Rattle.rbbi_annexes.proofs.Checker.{Entry, values, states_found, entries_found, passes}
-use Rattle.rbbi_annexes.proofs.Checked.{plain_rows, first_of, spell_boundaries_by}
+use Rattle.rbbi_annexes.proofs.Checked.{first_of, spell_boundaries_by}
 use Rattle.rbbi_annexes.proofs.Computing.{table_tests}
 use Rattle.rbbi_annexes.proofs.Ends.{graphemes_at_ends}
 use Rattle.rbbi_annexes.proofs.Placed.{spell_breaks}
@@ -33,16 +33,12 @@ lives k = not (eqb k 0)
 states : List Before
 states = states_found same_before table (grapheme_monitor classes) 1 lives 2000
 
-entries : List (Entry Before)
+entries : List (List (Entry Before))
 entries = entries_found same_before table (grapheme_monitor classes) 1 lives 20000 states
 
 fit : classes_fit same_class same_class-true class_of class_stepped classes other_class table.categories lives table.ranges ≡ true
 unfolding table_tests grapheme_tests table classes lives
 fit = refl
-
-plain : plain_rows table.rows ≡ true
-unfolding table_tests table
-plain = refl
 
 agree : passes same_before table (grapheme_monitor classes) 1 lives states entries ≡ true
 unfolding table_tests grapheme_tests table classes lives states entries
@@ -63,8 +59,9 @@ read = refl
 
 pub grapheme_boundaries : SpellBoundaries GRAPHEME.now (is_grapheme_break true) grapheme_status
 grapheme_boundaries =
-    spell_boundaries_by same_class same_class-true class_of class_stepped other_class same_before same_before-true grapheme_monitor 1 (is_grapheme_break true)
-    grapheme_status grapheme_tells GRAPHEME.now table lives classes states entries read version few fit plain agree
+    spell_boundaries_by same_class same_class-true class_of class_stepped other_class same_before same_before-true 1 (is_grapheme_break true)
+    grapheme_status GRAPHEME.now table lives classes (grapheme_monitor classes)
+    (λ known. grapheme_tells classes (category_of table.ranges) (λ c is. (known c is).2)) states entries read version few fit agree
 
 pub graphemes_break : SpellBreaksBy GRAPHEME.now (is_grapheme_break true)
 graphemes_break = spell_breaks (is_grapheme_break true) grapheme_status graphemes_at_ends GRAPHEME.now grapheme_boundaries

@@ -1,4 +1,11 @@
 pub mod GraphemeTable
 pub mod WordTable
 pub mod SentenceTable
+pub mod LineNumbers
+pub mod LineBase
+pub mod LineStates
+pub mod LineBreaks
+pub mod LineEntries
+pub mod LineStarts
+pub mod LineRows
 pub mod LineTable

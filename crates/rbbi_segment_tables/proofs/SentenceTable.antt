@@ -4,14 +4,14 @@ use Rattle.ucd_breaks.specs.declared.SentenceBreak.{SentenceBreak}
 use Rattle.ucd_breaks.specs.declared.SentenceBreak.TheVariants.{Other}
 use Rattle.std.proofs.lemmas.Bool.{leb-true}
 use Rattle.unicode_segmentation.specs.Sentence.{is_sentence_break}
-use Rattle.rbbi_model.specs.Tables.{Table}
+use Rattle.rbbi_model.specs.Tables.{Table, category_of}
 use Rattle.rbbi_model.specs.TableFile.{spelling}
 use Rattle.rbbi_text.specs.Bytes.{most_bytes}
 use Rattle.rbbi_annexes.specs.Breaks.{SpellTable, SpellBreaksBy}
 use Rattle.rbbi_annexes.specs.Statuses.{sentence_status, SpellBoundaries}
 use Rattle.rbbi_annexes.proofs.Categories.{classes_fit}
 use Rattle.rbbi_annexes.proofs.Checker.{Entry, values, states_found, entries_found, passes}
-use Rattle.rbbi_annexes.proofs.Checked.{plain_rows, first_of, spell_boundaries_by}
+use Rattle.rbbi_annexes.proofs.Checked.{first_of, spell_boundaries_by}
 use Rattle.rbbi_annexes.proofs.Computing.{table_tests}
 use Rattle.rbbi_annexes.proofs.Ends.{sentences_at_ends}
 use Rattle.rbbi_annexes.proofs.Placed.{spell_breaks}
@@ -35,16 +35,12 @@ lives k = not (eqb k 0)
 states : List Before
 states = states_found same_before table (sentence_monitor classes) 2 lives 5000
 
-entries : List (Entry Before)
+entries : List (List (Entry Before))
 entries = entries_found same_before table (sentence_monitor classes) 2 lives 50000 states
 
 fit : classes_fit same_class same_class-true class_of class_stepped classes Other table.categories lives table.ranges ≡ true
 unfolding table_tests sentence_tests table classes lives
 fit = refl
-
-plain : plain_rows table.rows ≡ true
-unfolding table_tests table
-plain = refl
 
 agree : passes same_before table (sentence_monitor classes) 2 lives states entries ≡ true
 unfolding table_tests sentence_tests table classes lives states entries
@@ -65,8 +61,9 @@ read = refl
 
 pub sentence_boundaries : SpellBoundaries SENTENCE.now is_sentence_break sentence_status
 sentence_boundaries =
-    spell_boundaries_by same_class same_class-true class_of class_stepped Other same_before same_before-true sentence_monitor 2 is_sentence_break
-    sentence_status sentence_tells SENTENCE.now table lives classes states entries read version few fit plain agree
+    spell_boundaries_by same_class same_class-true class_of class_stepped Other same_before same_before-true 2 is_sentence_break sentence_status
+    SENTENCE.now table lives classes (sentence_monitor classes) (λ known. sentence_tells classes (category_of table.ranges) (λ c is. (known c is).2))
+    states entries read version few fit agree
 
 pub sentences_break : SpellBreaksBy SENTENCE.now is_sentence_break
 sentences_break = spell_breaks is_sentence_break sentence_status sentences_at_ends SENTENCE.now sentence_boundaries

@@ -2,14 +2,14 @@
 use Rattle.std.proofs.Common.{◌≡◌, ◌≤◌, ℕ, Bool, true, not, eqb, leb, get_or, List, length, refl, inl}
 use Rattle.std.proofs.lemmas.Bool.{leb-true}
 use Rattle.unicode_segmentation.specs.Word.{is_word_break}
-use Rattle.rbbi_model.specs.Tables.{Table}
+use Rattle.rbbi_model.specs.Tables.{Table, category_of}
 use Rattle.rbbi_model.specs.TableFile.{spelling}
 use Rattle.rbbi_text.specs.Bytes.{most_bytes}
 use Rattle.rbbi_annexes.specs.Breaks.{SpellTable, SpellBreaksBy}
 use Rattle.rbbi_annexes.specs.Statuses.{word_status, SpellBoundaries}
 use Rattle.rbbi_annexes.proofs.Categories.{classes_fit}
 use Rattle.rbbi_annexes.proofs.Checker.{Entry, values, states_found, entries_found, passes}
-use Rattle.rbbi_annexes.proofs.Checked.{plain_rows, first_of, spell_boundaries_by}
+use Rattle.rbbi_annexes.proofs.Checked.{first_of, spell_boundaries_by}
 use Rattle.rbbi_annexes.proofs.Computing.{table_tests}
 use Rattle.rbbi_annexes.proofs.Ends.{words_at_ends}
 use Rattle.rbbi_annexes.proofs.Placed.{spell_breaks}
@@ -33,16 +33,12 @@ lives k = not (eqb k 0)
 states : List Before
 states = states_found same_before table (word_monitor classes) 4 lives 5000
 
-entries : List (Entry Before)
+entries : List (List (Entry Before))
 entries = entries_found same_before table (word_monitor classes) 4 lives 50000 states
 
 fit : classes_fit same_class same_class-true class_of class_stepped classes other_class table.categories lives table.ranges ≡ true
 unfolding table_tests word_tests table classes lives
 fit = refl
-
-plain : plain_rows table.rows ≡ true
-unfolding table_tests table
-plain = refl
 
 agree : passes same_before table (word_monitor classes) 4 lives states entries ≡ true
 unfolding table_tests word_tests table classes lives states entries
@@ -63,8 +59,9 @@ read = refl
 
 pub word_boundaries : SpellBoundaries WORD.now is_word_break word_status
 word_boundaries =
-    spell_boundaries_by same_class same_class-true class_of class_stepped other_class same_before same_before-true word_monitor 4 is_word_break
-    word_status word_tells WORD.now table lives classes states entries read version few fit plain agree
+    spell_boundaries_by same_class same_class-true class_of class_stepped other_class same_before same_before-true 4 is_word_break word_status WORD.now
+    table lives classes (word_monitor classes) (λ known. word_tells classes (category_of table.ranges) (λ c is. (known c is).2)) states entries read version
+    few fit agree
 
 pub words_break : SpellBreaksBy WORD.now is_word_break
 words_break = spell_breaks is_word_break word_status words_at_ends WORD.now word_boundaries

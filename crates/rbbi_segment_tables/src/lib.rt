@@ -14,6 +14,7 @@ ghost use Rattle.unicode_segmentation.specs.Sentence.{is_sentence_break};
 ghost use Rattle.unicode_segmentation.specs.Word.{is_word_break};
 ghost use Rattle.rbbi_text.specs.Bytes.{most_bytes};
 ghost use Rattle.rbbi_annexes.specs.Breaks.{SpellTable, SpellBreaksBy};
+ghost use Rattle.rbbi_annexes.specs.LineBoundaries.{is_line_break, line_status};
 ghost use Rattle.rbbi_annexes.specs.Statuses.{grapheme_status, word_status, sentence_status};
 ghost use Rattle.rbbi_annexes.specs.Statuses.{SpellBoundaries};
 
@@ -59,8 +60,14 @@ pub fn sentences() -> &'static [u8]
     sentence::SENTENCE
 }
 
-/// The bytes of the table file for lines (UAX #14). They spell a valid table.
+/// The bytes of the table file for lines (UAX #14).
+///
+/// They spell a valid table. The boundaries of each text by it are exactly its start and the places
+/// at which the annex says that a line must or may be broken, each with the status of the line that
+/// ends there: 100 if its last character is one after which a line must be broken, and else 0.
 pub fn lines() -> &'static [u8]
+    ensures places { SpellBreaksBy result.now is_line_break }
+    ensures statuses { SpellBoundaries result.now is_line_break line_status }
     ensures valid { SpellTable result.now }
     ensures short { length result.now ≤ most_bytes }
 {

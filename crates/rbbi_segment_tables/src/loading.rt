@@ -41,7 +41,7 @@ fn bytes_of(kind: Kind) -> &'static [u8]
 }
 
 /// The built-in table of a kind. It gives the boundaries of each text by UAX #29, or those of lines
-/// by rules/line.rules.
+/// by UAX #14.
 ///
 /// Refuses only where memory runs out.
 pub fn built_in(alloc: Global, kind: Kind) -> Result<Table, AllocError>

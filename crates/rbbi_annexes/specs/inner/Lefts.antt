@@ -1,5 +1,5 @@
 -- What stands before a place, once one more item is passed.
-use Rattle.std.specs.Prelude.{ℕ, Bool, true, false, not, ◌&&◌, ◌||◌, List, [], ◌∷◌, Option, Some, if◌then◌else◌}
+use Rattle.std.specs.Prelude.{ℕ, Bool, true, false, not, ◌&&◌, ◌||◌, List, [], ◌∷◌, Some, if◌then◌else◌}
 use Rattle.ucd_breaks.specs.declared.LineBreak.TheVariants.{ClosePunctuation as CL, CloseParenthesis as CP, InfixNumeric as IS, Numeric as NU}
 use Rattle.ucd_breaks.specs.declared.LineBreak.TheVariants.{RegionalIndicator as RI, Space as SP, BreakSymbols as SY}
 use Rattle.rbbi_annexes.specs.declared.lines.items.Item.{Item}

@@ -4,7 +4,10 @@
 
 ghost use Rattle.std.specs.Prelude.{◌≡◌, is_none};
 ghost use Rattle.ucd_category.specs.GeneralCategory.{general_category_eq};
-ghost use Rattle.rbbi_annexes.specs.LineBreaks.{resolved, is_wide, item_of, is, one_of, is_initial_quote, is_final_quote, is_east_asian, is_reserved, is_aksara_or_circle, is_aksara, is_mark, takes_marks, alone};
+ghost use Rattle.rbbi_annexes.specs.LineBreaks.{resolved, is_wide, item_of, is, one_of, alone};
+ghost use Rattle.rbbi_annexes.specs.LineBreaks.{is_initial_quote, is_final_quote, is_east_asian};
+ghost use Rattle.rbbi_annexes.specs.LineBreaks.{is_reserved, is_aksara_or_circle, is_aksara};
+ghost use Rattle.rbbi_annexes.specs.LineBreaks.{is_mark, takes_marks};
 
 use ucd_breaks::LineBreak;
 use ucd_breaks::LineBreak::{

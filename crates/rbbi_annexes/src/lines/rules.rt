@@ -1,7 +1,10 @@
 //! The rules LB4 to LB31, on what stands before and after a place.
 
 ghost use Rattle.std.specs.Prelude.{◌≡◌};
-ghost use Rattle.rbbi_annexes.specs.LineBreaks.{joins_glue, joins_over_spaces, joins_after_spaces, joins_quote, joins_hyphen, joins_number, joins_syllable, joins_letter, by_rules, by_later_rules};
+ghost use Rattle.rbbi_annexes.specs.LineBreaks.{joins_glue, joins_over_spaces, joins_after_spaces};
+ghost use Rattle.rbbi_annexes.specs.LineBreaks.{joins_quote, joins_hyphen, joins_number};
+ghost use Rattle.rbbi_annexes.specs.LineBreaks.{joins_syllable, joins_letter};
+ghost use Rattle.rbbi_annexes.specs.LineBreaks.{by_rules, by_later_rules};
 
 use super::items::{
     Item, is, is_absent, is_aksara, is_aksara_or_circle, is_east_asian, is_final_quote,
@@ -38,15 +41,15 @@ pub struct Left {
     pub before_held: Option<Item>,
     /// The last character is a ZWJ.
     pub joiner: bool,
-    /// A number stands here, with SY and IS behind it.
+    /// A number stands here, with SY and IS after it.
     pub number: bool,
-    /// The same with a CL or CP behind it.
+    /// The same with a CL or CP after it.
     pub closed_number: bool,
     /// The items end in an odd number of RI.
     pub half_flag: bool,
 }
 
-/// What the rules read of the characters behind a place: items, counted away from the place.
+/// What the rules read of the characters after a place: items, counted away from the place.
 #[derive(Clone, Copy, Debug, PartialEq, Eq)]
 pub struct Right {
     /// The next character is CM or ZWJ.
@@ -72,10 +75,10 @@ pub(super) fn joins_over_spaces(l: &Left, r: &Right) -> bool
     ensures { result ≡ joins_over_spaces l.now r.now }
 {
     let before = [BK, CR, LF, NL, OP, QU, GL, SP, ZW];
-    let behind = [SP, GL, WJ, CL, QU, CP, EX, IS, SY, BK, CR, LF, NL, ZW];
+    let after = [SP, GL, WJ, CL, QU, CP, EX, IS, SY, BK, CR, LF, NL, ZW];
     is(OP, l.held)
         | is_initial_quote(l.held) & (is_absent(l.before_held) | one_of(&before, l.before_held))
-        | is_final_quote(r.first) & (is_absent(r.second) | one_of(&behind, r.second))
+        | is_final_quote(r.first) & (is_absent(r.second) | one_of(&after, r.second))
 }
 
 pub(super) fn joins_after_spaces(l: &Left, r: &Right) -> bool

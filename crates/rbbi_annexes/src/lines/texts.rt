@@ -1,7 +1,7 @@
 //! One pass over a text, with what stands before each place.
 
 ghost use Rattle.std.specs.Prelude.{◌≡◌, ◌∷◌, ℕ, List, [], Option, IfOk, slice_get, if◌then◌else◌};
-ghost use Rattle.rbbi_annexes.specs.LineBreaks.{items_behind, left_of, right_of, line_verdict};
+ghost use Rattle.rbbi_annexes.specs.LineBreaks.{items_after, left_of, right_of, line_verdict};
 ghost use Rattle.rbbi_annexes.specs.LineTexts.{line_verdicts};
 ghost use Rattle.rbbi_annexes.specs.inner.Lefts.{left_with, is_empty};
 
@@ -38,7 +38,7 @@ pub(super) fn left_after_item(l: &Left, item: Item, joiner: bool) -> Left
 }
 
 /// What stands before a place, once the character at it is passed.
-#[tactic(auto, using(crate::proofs::LineTexts::left_of_mark, crate::proofs::LineTexts::left_of_item))]
+#[tactic(auto, using(crate::proofs::LineTexts::left_mark, crate::proofs::LineTexts::left_item))]
 pub(super) fn left_after(l: &Left, c: char) -> Left
     ensures { (before : List ℕ) → l.now ≡ left_of before → result ≡ left_of (c ∷ before) }
 {
@@ -51,14 +51,15 @@ pub(super) fn left_after(l: &Left, c: char) -> Left
     }
 }
 
-/// The first item behind one, and the characters behind that.
-#[tactic(auto, using(crate::proofs::LineTexts::items_behind_none, crate::proofs::LineTexts::items_behind_mark, crate::proofs::LineTexts::items_behind_item))]
-pub(super) fn next_item(last: Option<Item>, behind: &[char]) -> (Option<Item>, &[char])
-    ensures first { result.0 ≡ slice_get (items_behind last behind.now) 0 }
-    ensures second { slice_get (items_behind result.0 result.1.now) 0 ≡ slice_get (items_behind last behind.now) 1 }
+/// The first item after one, and the characters after that.
+#[tactic(auto, using(crate::proofs::LineTexts::after_mark, crate::proofs::LineTexts::after_item))]
+pub(super) fn next_item(last: Option<Item>, after: &[char]) -> (Option<Item>, &[char])
+    ensures first { result.0 ≡ slice_get (items_after last after.now) 0 }
+    ensures second { slice_get (items_after result.0 result.1.now) 0
+        ≡ slice_get (items_after last after.now) 1 }
 {
     let takes = takes_marks(last);
-    let mut rest = behind;
+    let mut rest = after;
     while let Some((c, further)) = rest.split_first() {
         let item = item_of(*c);
         rest = further;
@@ -69,12 +70,14 @@ pub(super) fn next_item(last: Option<Item>, behind: &[char]) -> (Option<Item>, &
     (None, rest)
 }
 
-pub(super) fn right_of(next: char, behind: &[char]) -> Right
-    ensures { result ≡ right_of next behind.now }
+/// What stands after a place. It reads over all marks that follow, so the verdicts on a long run of
+/// marks take the square of its length.
+pub(super) fn right_of(next: char, after: &[char]) -> Right
+    ensures { result ≡ right_of next after.now }
 {
     let item = item_of(next);
     let first = Some(alone(item));
-    let (second, rest) = next_item(first, behind);
+    let (second, rest) = next_item(first, after);
     let (third, _) = next_item(second, rest);
     Right {
         mark: is_mark(item),
@@ -96,13 +99,14 @@ pub(super) fn verdict_at_end(is_start: bool) -> Verdict
 }
 
 /// The verdict in front of a character.
-pub(super) fn verdict_before(is_start: bool, l: &Left, next: char, behind: &[char]) -> Verdict
-    ensures { (before : List ℕ) → is_start ≡ is_empty before → l.now ≡ left_of before → result ≡ line_verdict before (next ∷ behind.now) }
+pub(super) fn verdict_before(is_start: bool, l: &Left, next: char, after: &[char]) -> Verdict
+    ensures { (before : List ℕ) → is_start ≡ is_empty before → l.now ≡ left_of before
+        → result ≡ line_verdict before (next ∷ after.now) }
 {
     if is_start {
         Verdict::NoBreak
     } else {
-        by_rules(l, &right_of(next, behind))
+        by_rules(l, &right_of(next, after))
     }
 }
 
@@ -130,11 +134,11 @@ pub fn line_verdicts(alloc: Global, text: &[char]) -> Result<Vec<Verdict>, Alloc
     let mut is_start = true;
     let mut left = start();
     let mut rest = text;
-    while let Some((next, behind)) = rest.split_first() {
-        verdicts.push(verdict_before(is_start, &left, *next, behind))?;
+    while let Some((next, after)) = rest.split_first() {
+        verdicts.push(verdict_before(is_start, &left, *next, after))?;
         is_start = false;
         left = left_after(&left, *next);
-        rest = behind;
+        rest = after;
     }
     verdicts.push(verdict_at_end(is_start))?;
     Ok(verdicts)

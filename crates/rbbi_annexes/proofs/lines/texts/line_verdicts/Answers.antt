@@ -9,7 +9,7 @@ loop-next-preserved c =
       c.in-Some.next.now ∷ at.0,
       refl,
       c.left_after-left.ensures at.0 at.2,
-      grown c.loop-next.verdicts.items c.push.new.self.items c.verdict_before.result at.0 c.loop-next.rest.now c.in-Some.behind.now c.in-Some.next.now
+      grown c.loop-next.verdicts.items c.push.new.self.items c.verdict_before.result at.0 c.loop-next.rest.now c.in-Some.after.now c.in-Some.next.now
           c.args.text.now at.3 c.in-Some.ensures.cases.0 (c.verdict_before.ensures at.0 at.1 at.2) c.in_ok-push.ensures.items,
     )
 

@@ -1,4 +1,4 @@
-use Rattle.std.proofs.Common.{◌≡◌, ℕ, List, [], ◌++◌, length}
+use Rattle.std.proofs.Common.{◌≡◌, ℕ, List, ◌++◌, length}
 use Rattle.rbbi_annexes.specs.LineBreaks.{left_of}
 use Rattle.rbbi_annexes.specs.LineTexts.{line_verdicts, verdicts_from}
 use Rattle.rbbi_annexes.specs.inner.Lefts.{is_empty}
