@@ -1,21 +1,14 @@
 //! The cases of a file.
+use crate::case::Case;
+use crate::entry::Entry;
 use crate::error::CaseErr;
-use crate::setting::{Entry, Setting};
 use std::alloc::Global;
-
-/// A case: the line of its name, from 1, its name, and what the lines after it say.
-#[derive(Drop)]
-pub(crate) struct Case {
-    pub(crate) line: usize,
-    pub(crate) name: String,
-    pub(crate) settings: Vec<Setting>,
-}
 
 /// The cases of a file, and what holds for each case that doesn't say otherwise.
 #[derive(Drop)]
 pub(crate) struct CaseFile {
     alloc: Global,
-    pub(crate) for_all: Vec<Setting>,
+    for_all: Vec<Entry>,
     pub(crate) cases: Vec<Case>,
     /// The line that is being read, from 1.
     pub(crate) line: usize,
@@ -69,26 +62,32 @@ impl CaseFile {
         let Some((line, entry)) = self.last.take() else {
             return Ok(());
         };
-        if entry.key.as_str() == "case" && entry.name.is_none() && !entry.text.is_empty() {
-            let name = str::from_utf8(entry.text.as_slice())?;
-            self.cases.push(Case {
-                line,
-                name: String::from_str(self.alloc, name)?,
-                settings: Vec::new(self.alloc),
-            })?;
+        if entry.is_case() {
             self.heads.clear();
-            return Ok(());
+            return self.begin_case(line, &entry);
         }
         if !entry.may_be_repeated() {
             self.keep_head(entry.head.as_str())?;
         }
-        let is_for_all = entry.is_for_all();
-        let setting = entry.read(self.alloc)?;
-        match self.cases.last_mut() {
-            Some(case) => case.settings.push(setting)?,
-            None if is_for_all => self.for_all.push(setting)?,
-            None => return Err(CaseErr::Wrong("no case yet")),
+        if let Some(case) = self.cases.last_mut() {
+            return case.take(&entry);
         }
+        // It is refused here, and not at the first case.
+        Case::new(self.alloc, line, b"")?.take(&entry)?;
+        if !entry.is_for_all() {
+            return Err(CaseErr::Wrong("no case yet"));
+        }
+        self.for_all.push(entry)?;
+        Ok(())
+    }
+
+    /// Begins a case, by what holds for all.
+    fn begin_case(&mut self, line: usize, entry: &Entry) -> Result<(), CaseErr> {
+        let mut case = Case::new(self.alloc, line, &entry.text)?;
+        for entry in &self.for_all {
+            case.take(entry)?;
+        }
+        self.cases.push(case)?;
         Ok(())
     }
 

@@ -3,6 +3,9 @@ use crate::error::CaseErr;
 use rbbi_text::{append, decimal, hexadecimal};
 use std::alloc::Global;
 
+/// Braces without hexadecimal digits of a character.
+const NO_CHARACTER: CaseErr = CaseErr::Wrong("an escape of no character");
+
 /// The text before the first of this byte, and the text after it.
 pub(crate) fn split_once(text: &[u8], byte: u8) -> Option<(&[u8], &[u8])> {
     for (at, found) in text.iter().enumerate() {
@@ -39,14 +42,20 @@ pub(crate) fn unescaped_string(alloc: Global, text: &[u8]) -> Result<String, Cas
     Ok(String::from_str(alloc, text)?)
 }
 
+/// The name of a file, with escapes.
+pub(crate) fn unescaped_name(alloc: Global, text: &[u8]) -> Result<String, CaseErr> {
+    if text.is_empty() {
+        return Err(CaseErr::Wrong("a name is wanted"));
+    }
+    unescaped_string(alloc, text)
+}
+
 /// Appends the byte of two hexadecimal digits, and gives what follows them.
 fn push_byte<'a>(after: &'a [u8], bytes: &mut Vec<u8>) -> Result<&'a [u8], CaseErr> {
     if after.len() < 2 {
         return Err(CaseErr::Wrong("no escape after %"));
     }
-    let Some(byte) = hexadecimal(&after[..2], 2, 2, 255) else {
-        return Err(CaseErr::Wrong("no escape after %"));
-    };
+    let byte = hexadecimal(&after[..2], 2, 2, 255).ok_or(CaseErr::Wrong("no escape after %"))?;
     bytes.push(byte as u8)?;
     Ok(&after[2..])
 }
@@ -57,9 +66,7 @@ fn push_braced<'a>(
     after: &'a [u8],
     bytes: &mut Vec<u8>,
 ) -> Result<&'a [u8], CaseErr> {
-    let Some((inner, rest)) = split_once(after, b'}') else {
-        return Err(CaseErr::Wrong("no } after %{"));
-    };
+    let (inner, rest) = split_once(after, b'}').ok_or(CaseErr::Wrong("no } after %{"))?;
     match split_once(inner, b'*') {
         Some((times, piece)) => push_times(alloc, times, piece, bytes)?,
         None => push_characters(alloc, inner, bytes)?,
@@ -74,9 +81,7 @@ fn push_times(
     piece: &[u8],
     bytes: &mut Vec<u8>,
 ) -> Result<(), CaseErr> {
-    let Some(times) = decimal(times, 999_999_999) else {
-        return Err(CaseErr::Wrong("a number is wanted"));
-    };
+    let times = decimal(times, 999_999_999).ok_or(CaseErr::Wrong("a number is wanted"))?;
     let mut one = Vec::new(alloc);
     let mut rest = piece;
     for _ in 0..piece.len() {
@@ -97,21 +102,14 @@ fn push_times(
 fn push_characters(alloc: Global, digits: &[u8], bytes: &mut Vec<u8>) -> Result<(), CaseErr> {
     let (first, last) = match split_once(digits, b'.') {
         Some((first, [b'.', last @ ..])) => (first, last),
-        Some(_) => return Err(CaseErr::Wrong("an escape of no character")),
+        Some(_) => return Err(NO_CHARACTER),
         None => (digits, digits),
     };
-    let Some(first) = hexadecimal(first, 1, 6, 0x10_FFFF) else {
-        return Err(CaseErr::Wrong("an escape of no character"));
-    };
-    let Some(last) = hexadecimal(last, 1, 6, 0x10_FFFF) else {
-        return Err(CaseErr::Wrong("an escape of no character"));
-    };
+    let first = hexadecimal(first, 1, 6, 0x10_FFFF).ok_or(NO_CHARACTER)?;
+    let last = hexadecimal(last, 1, 6, 0x10_FFFF).ok_or(NO_CHARACTER)?;
     let mut characters = String::new(alloc);
     for code in first..=last {
-        let Some(character) = char::from_u32(code) else {
-            return Err(CaseErr::Wrong("an escape of no character"));
-        };
-        characters.push(character)?;
+        characters.push(char::from_u32(code).ok_or(NO_CHARACTER)?)?;
     }
     append(characters.as_bytes(), bytes)?;
     Ok(())

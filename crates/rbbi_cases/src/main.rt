@@ -3,14 +3,16 @@
 //! how many cases passed and failed. A case file that isn't of the form is refused with its line.
 #![tactic(auto)]
 
+mod case;
 mod case_file;
+mod entry;
 mod error;
 mod escapes;
 mod played;
-mod setting;
 
-use case_file::{Case, CaseFile};
-use played::Run;
+use case::Case;
+use case_file::CaseFile;
+use played::{differences, run};
 use rbbi_io::words;
 use std::io;
 use std::process::ExitCode;
@@ -23,15 +25,10 @@ struct Counts {
 }
 
 /// Runs a case, prints what differs, and counts it.
-fn run_case(
-    rt: &HostRuntime,
-    name: &str,
-    file: &CaseFile,
-    case: &Case,
-    counts: &mut Counts,
-) -> io::Result<()> {
-    let run = Run::of(rt, file.for_all.as_slice(), case.settings.as_slice())?;
-    let differences = run.differences(file.for_all.as_slice(), case.settings.as_slice())?;
+fn run_case(rt: &HostRuntime, name: &str, case: Case, counts: &mut Counts) -> io::Result<()> {
+    let mut case = case;
+    let status = run(rt, &mut case);
+    let differences = differences(&case, status)?;
     for difference in &differences {
         let line = case.line;
         let title = case.name.as_str();
@@ -55,8 +52,8 @@ fn run_file(rt: &HostRuntime, name: &str, counts: &mut Counts) -> io::Result<()>
         counts.failed = counts.failed.saturating_add(1);
         return println!(rt; "{name}:{line}: {reason}");
     }
-    for case in &file.cases {
-        run_case(rt, name, &file, case, counts)?;
+    for case in file.cases {
+        run_case(rt, name, case, counts)?;
     }
     Ok(())
 }

@@ -1,29 +1,14 @@
 //! A case is run, and what differs is reported.
 ghost use Rattle.std.specs.Prelude.{◌≡◌, ◌<◌};
 
-use crate::setting::Setting;
-use rbbi_io::{MemFiles, MemSink};
+use crate::case::{Case, Counted, Wanted};
 use rbbi_segment::{Surroundings, System, segment};
-use rbbi_text::{Steps, append};
+use rbbi_text::Steps;
 use rbbi_tool::rbbi;
 use std::alloc::{AllocError, Global};
 use std::io;
 use std::marker::Brand;
 use std::sync::ledger::{Blank, Ledger};
-
-/// A run over files, an input and outputs in memory.
-#[derive(Drop)]
-pub(crate) struct Run {
-    alloc: Global,
-    /// Whether the program is `segment`, and not `rbbi`.
-    is_segment: bool,
-    words: Vec<String>,
-    files: MemFiles,
-    input: Vec<u8>,
-    out: MemSink,
-    errors: MemSink,
-    status: u8,
-}
 
 /// No terminal is anywhere.
 const SURROUNDINGS: Surroundings = Surroundings {
@@ -49,208 +34,108 @@ impl System for Memory {
 }
 
 /// The status of the program's top call.
-fn status_by<L: Ledger>(alloc: Global, run: &mut Run, steps: &mut Steps<L>) -> u8 {
-    if !run.is_segment {
-        return rbbi(alloc, &run.words, &mut run.files, &mut run.out, steps);
+fn status_by<L: Ledger>(alloc: Global, case: &mut Case, steps: &mut Steps<L>) -> u8 {
+    if !case.is_segment {
+        return rbbi(alloc, &case.words, &mut case.files, &mut case.out, steps);
     }
     segment(
         alloc,
-        &run.words,
+        &case.words,
         SURROUNDINGS,
         &Memory,
-        &mut run.files,
-        &mut run.input.as_slice(),
-        &mut run.out,
-        &mut run.errors,
+        &mut case.files,
+        &mut case.input.as_slice(),
+        &mut case.out,
+        &mut case.errors,
         steps,
     )
 }
 
 /// The same with a counter of its own.
-fn status_of<L: Ledger>(rt: &HostRuntime, run: &mut Run, blank: Blank) -> u8
+fn status_of<L: Ledger>(rt: &HostRuntime, case: &mut Case, blank: Blank) -> u8
     requires name { blank.name ≡ L.name }
     requires parts { blank.parts ≡ L.parts }
     requires some { 0 < blank.parts }
 {
     let mut steps = Steps::<L>::new(rt, blank);
-    status_by(rt.alloc(), run, &mut steps)
+    status_by(rt.alloc(), case, &mut steps)
 }
 
-impl Run {
-    /// A run with no words and no files.
-    fn new(alloc: Global) -> Run {
-        Run {
-            alloc,
-            is_segment: false,
-            words: Vec::new(alloc),
-            files: MemFiles::new(alloc),
-            input: Vec::new(alloc),
-            out: MemSink::new(alloc),
-            errors: MemSink::new(alloc),
-            status: 0,
-        }
-    }
+/// Runs a case, and gives the exit status.
+pub(crate) fn run(rt: &HostRuntime, case: &mut Case) -> u8 {
+    status_of::<Brand>(rt, case, Blank::new(1))
+}
 
-    /// The run of a case: what holds for all cases of its file, then what it says itself.
-    pub(crate) fn of(
-        rt: &HostRuntime,
-        for_all: &[Setting],
-        own: &[Setting],
-    ) -> Result<Run, AllocError> {
-        let mut run = Run::new(rt.alloc());
-        for setting in for_all {
-            run.prepare(setting)?;
-        }
-        for setting in own {
-            run.prepare(setting)?;
-        }
-        run.status = status_of::<Brand>(rt, &mut run, Blank::new(1));
-        Ok(run)
+/// What differs from what a case wants, after a run with this status, each in a line.
+pub(crate) fn differences(case: &Case, status: u8) -> Result<Vec<String>, AllocError> {
+    let mut found = Vec::new(case.alloc);
+    for wanted in &case.wanted {
+        push_difference(case, wanted, &mut found)?;
     }
+    let wanted = case.status;
+    if u32::from(status) != wanted {
+        found.push(format!(in case.alloc; "status {status} and not {wanted}")?)?;
+    }
+    if let Some(output) = &case.output {
+        push_unlike("output", case.out.taken(), output, &mut found)?;
+    }
+    push_unlike(
+        "standard error",
+        case.errors.taken(),
+        &case.error_output,
+        &mut found,
+    )?;
+    Ok(found)
+}
 
-    /// Prepares what a line says of words, files and faults.
-    fn prepare(&mut self, setting: &Setting) -> Result<(), AllocError> {
-        match setting {
-            Setting::Segment => self.is_segment = true,
-            Setting::Args(words) => {
-                self.words.clear();
-                for word in words {
-                    self.words.push(word.clone()?)?;
-                }
+/// Adds what differs from what is wanted of files, calls, puts and bytes.
+fn push_difference(
+    case: &Case,
+    wanted: &Wanted,
+    found: &mut Vec<String>,
+) -> Result<(), AllocError> {
+    match wanted {
+        Wanted::Written(name, bytes) => {
+            push_unlike(name.as_str(), case.held(name.as_str()), bytes, found)?;
+        }
+        Wanted::Absent(name) if case.files.get(name.as_str()).is_some() => {
+            found.push(format!(in case.alloc; "{name} is there")?)?;
+        }
+        Wanted::Absent(_) => {}
+        Wanted::Count(counted, wanted) => {
+            let (count, name) = count_of(case, *counted);
+            if count != *wanted {
+                found.push(format!(in case.alloc; "{count} {name} and not {wanted}")?)?;
             }
-            Setting::File(name, bytes) => self.files.add(name.as_str(), bytes.as_slice())?,
-            Setting::Change(name, at, bytes) => self.change(name.as_str(), *at, bytes.as_slice())?,
-            Setting::Cut(name, len) => self.cut(name.as_str(), *len)?,
-            Setting::Input(bytes) => append(bytes, &mut self.input)?,
-            Setting::FailCall(number) => self.files.fail_at(*number)?,
-            Setting::FailPut(number) => self.out.fail_at(*number)?,
-            Setting::PutAtMost(most) if *most >= 1 => self.out.at_most(*most),
-            _ => {}
         }
-        Ok(())
     }
+    Ok(())
+}
 
-    /// The first bytes of a file, at most so many.
-    fn cut(&mut self, name: &str, len: usize) -> Result<(), AllocError> {
-        let bytes = first(self.held(name), len).to_vec(self.alloc)?;
-        self.files.add(name, bytes.as_slice())
-    }
-
-    /// From a place on the file holds these bytes.
-    fn change(&mut self, name: &str, at: usize, new: &[u8]) -> Result<(), AllocError> {
-        let mut bytes = first(self.held(name), at).to_vec(self.alloc)?;
-        let after = bytes.len().saturating_add(new.len());
-        append(new, &mut bytes)?;
-        append(after_first(self.held(name), after), &mut bytes)?;
-        self.files.add(name, bytes.as_slice())
-    }
-
-    fn held(&self, name: &str) -> &[u8] {
-        self.files.get(name).unwrap_or(&[])
-    }
-
-    /// What differs from what a case wants, each in a line.
-    pub(crate) fn differences(
-        &self,
-        for_all: &[Setting],
-        own: &[Setting],
-    ) -> Result<Vec<String>, AllocError> {
-        let mut found = Vec::new(self.alloc);
-        let mut status = 0;
-        let mut output: Option<&[u8]> = Some(&[]);
-        let mut errors: &[u8] = &[];
-        for setting in for_all.iter().chain(own) {
-            match setting {
-                Setting::Status(wanted) => status = *wanted,
-                Setting::Output(bytes) => output = Some(bytes.as_slice()),
-                Setting::Bytes(_) => output = None,
-                Setting::Errors(bytes) => errors = bytes.as_slice(),
-                _ => {}
-            }
-            self.push_difference(setting, &mut found)?;
-        }
-        self.push_end(
-            status,
-            output.unwrap_or(self.out.taken()),
-            errors,
-            &mut found,
-        )?;
-        Ok(found)
-    }
-
-    /// What differs from the wanted status, output and standard error.
-    fn push_end(
-        &self,
-        status: u32,
-        output: &[u8],
-        errors: &[u8],
-        found: &mut Vec<String>,
-    ) -> Result<(), AllocError> {
-        if u32::from(self.status) != status {
-            let answered = self.status;
-            found.push(format!(in self.alloc; "status {answered} and not {status}")?)?;
-        }
-        if self.out.taken() != output {
-            found.push(unlike(self.alloc, "output", self.out.taken(), output)?)?;
-        }
-        if self.errors.taken() != errors {
-            found.push(unlike(self.alloc, "standard error", self.errors.taken(), errors)?)?;
-        }
-        Ok(())
-    }
-
-    /// What differs from what a line wants of files, calls, puts and bytes.
-    fn push_difference(
-        &self,
-        setting: &Setting,
-        found: &mut Vec<String>,
-    ) -> Result<(), AllocError> {
-        match setting {
-            Setting::Written(name, bytes) if self.held(name.as_str()) != bytes.as_slice() => {
-                let held = self.held(name.as_str());
-                found.push(unlike(self.alloc, name.as_str(), held, bytes.as_slice())?)?;
-            }
-            Setting::Absent(name) if self.files.get(name.as_str()).is_some() => {
-                found.push(format!(in self.alloc; "{name} is there")?)?;
-            }
-            Setting::Bytes(wanted) if self.out.taken().len() != *wanted => {
-                let bytes = self.out.taken().len();
-                found.push(format!(in self.alloc; "{bytes} bytes of output and not {wanted}")?)?;
-            }
-            Setting::Calls(wanted) if self.files.calls() != *wanted => {
-                let calls = self.files.calls();
-                found.push(format!(in self.alloc; "{calls} calls of files and not {wanted}")?)?;
-            }
-            Setting::Puts(wanted) if self.out.calls() != *wanted => {
-                let puts = self.out.calls();
-                found.push(format!(in self.alloc; "{puts} puts and not {wanted}")?)?;
-            }
-            _ => {}
-        }
-        Ok(())
+/// How many of these there were, and how they are called.
+fn count_of(case: &Case, counted: Counted) -> (u64, &'static str) {
+    match counted {
+        Counted::OutputBytes => (case.out.taken().len() as u64, "bytes of output"),
+        Counted::Calls => (case.files.calls(), "calls of files"),
+        Counted::Puts => (case.out.calls(), "puts"),
     }
 }
 
 /// The most bytes that are shown of a list that differs.
 const SHOWN: usize = 300;
 
-/// How two lists of bytes that differ are reported.
-fn unlike(alloc: Global, what: &str, found: &[u8], wanted: &[u8]) -> Result<String, AllocError> {
-    let found = first(found, SHOWN).escape_ascii();
-    let wanted = first(wanted, SHOWN).escape_ascii();
-    format!(in alloc; "{what} \"{found}\" and not \"{wanted}\"")
-}
-
-fn first(bytes: &[u8], len: usize) -> &[u8] {
-    if len < bytes.len() {
-        return &bytes[..len];
+/// Adds how two lists of bytes differ, if they do.
+fn push_unlike(
+    what: &str,
+    bytes: &[u8],
+    wanted: &[u8],
+    found: &mut Vec<String>,
+) -> Result<(), AllocError> {
+    if bytes != wanted {
+        let alloc = *found.allocator();
+        let bytes = bytes[..bytes.len().min(SHOWN)].escape_ascii();
+        let wanted = wanted[..wanted.len().min(SHOWN)].escape_ascii();
+        found.push(format!(in alloc; "{what} \"{bytes}\" and not \"{wanted}\"")?)?;
     }
-    bytes
-}
-
-fn after_first(bytes: &[u8], len: usize) -> &[u8] {
-    if len < bytes.len() {
-        return &bytes[len..];
-    }
-    &[]
+    Ok(())
 }

@@ -21,13 +21,6 @@ pub(crate) struct Marked {
     pub(crate) marks: Vec<bool>,
 }
 
-/// A word, and what follows it.
-#[derive(Drop)]
-struct WordCut<'a> {
-    word: &'a [u8],
-    rest: &'a [u8],
-}
-
 /// How many bytes stand before the first space or tab.
 fn word_len(text: &[u8]) -> usize
     ensures place { result ≡ position_or_len line_parts.is_blank text.now }
@@ -42,19 +35,16 @@ fn word_len(text: &[u8]) -> usize
 }
 
 /// The first word between spaces and tabs, and what follows it; none where there is no word.
-fn first_word(text: &[u8]) -> Option<WordCut<'_>>
+fn first_word(text: &[u8]) -> Option<(&[u8], &[u8])>
     ensures { MatchOption result (words_of text.now ≡ [])
-        (λ cut. IsFirstWord text.now cut.word.now cut.rest.now) }
+        (λ cut. IsFirstWord text.now cut.0.now cut.1.now) }
 {
     let text = trim_start(text);
     let end = word_len(text);
     if end == 0 {
         return None;
     }
-    Some(WordCut {
-        word: &text[..end],
-        rest: &text[end..],
-    })
+    Some((&text[..end], &text[end..]))
 }
 
 /// Whether the word marks a boundary (U+00F7) or none (U+00D7).
@@ -79,27 +69,15 @@ fn character_of(word: &[u8]) -> Option<char>
     char::from_u32(number)
 }
 
-/// A code point and the mark after it, and what follows both.
-#[derive(Drop)]
-struct Pair<'a> {
-    character: char,
-    mark: bool,
-    rest: &'a [u8],
-}
-
-/// The pair that begins with this word, before what follows it.
-fn pair_of<'a>(point: &[u8], after: &'a [u8]) -> Option<Pair<'a>>
+/// The code point of this word and the mark that follows it, and what follows both.
+fn pair_of<'a>(point: &[u8], after: &'a [u8]) -> Option<(char, bool, &'a [u8])>
     ensures { MatchOption result (IsNoPair point.now (words_of after.now))
-        (λ pair. IsPairOf point.now after.now pair.character pair.mark pair.rest.now) }
+        (λ pair. IsPairOf point.now after.now pair.0 pair.1 pair.2.now) }
 {
     let character = character_of(point)?;
     let sign = first_word(after)?;
-    let mark = mark_of(sign.word)?;
-    Some(Pair {
-        character,
-        mark,
-        rest: sign.rest,
-    })
+    let mark = mark_of(sign.0)?;
+    Some((character, mark, sign.1))
 }
 
 /// The text and the marks that a line writes, or `None` if it writes no test.
@@ -108,13 +86,13 @@ pub(crate) fn marked_text(alloc: Global, line: &[u8]) -> Result<Option<Marked>, 
         ((text : List ℕ) (marks : List Bool) → ¬ WritesTest line.now text marks)
         (λ marked. IsMarkedOf line.now (chars (string_bytes marked.text)) marked.marks.items)) }
 {
-    let Some(first) = first_word(before_byte(line, b'#')) else {
+    let Some((first, rest)) = first_word(before_byte(line, b'#')) else {
         return Ok(None);
     };
-    let Some(_mark) = mark_of(first.word) else {
+    let Some(_mark) = mark_of(first) else {
         return Ok(None);
     };
-    marked_pairs(alloc, first.rest)
+    marked_pairs(alloc, rest)
 }
 
 /// The text and the marks that the words after the first mark write.
@@ -126,13 +104,13 @@ fn marked_pairs(alloc: Global, words: &[u8]) -> Result<Option<Marked>, AllocErro
     let mut text = String::new(alloc);
     let mut marks = Vec::new(alloc);
     let mut rest = words;
-    while let Some(point) = first_word(rest) {
-        let Some(pair) = pair_of(point.word, point.rest) else {
+    while let Some((point, after)) = first_word(rest) {
+        let Some((character, mark, next)) = pair_of(point, after) else {
             return Ok(None);
         };
-        push_character(&mut text, pair.character)?;
-        marks.push(pair.mark)?;
-        rest = pair.rest;
+        push_character(&mut text, character)?;
+        marks.push(mark)?;
+        rest = next;
     }
     Ok(Some(Marked { text, marks }))
 }

@@ -4,8 +4,8 @@ ghost use Rattle.rbbi_text.specs.Bytes.{most_bytes};
 ghost use Rattle.rbbi_filter.specs.AbbreviationFiles.{IsAbbreviation, ReadsAbbreviations};
 ghost use Rattle.rbbi_filter.specs.Abbreviations as spec;
 ghost use Rattle.rbbi_filter.specs.inner.Keys as keys;
-ghost use Rattle.rbbi_script.specs.Grammar.{IsSkipped};
 
+use rbbi_script::is_skipped;
 use rbbi_text::{Line, LineValue, LinesErr, Values, read_lines};
 use std::alloc::{AllocError, Global};
 use std::marker::Model;
@@ -168,16 +168,6 @@ impl LineValue for Abbreviation {
         }
         let key = key_of(&characters);
         Ok(Line::Writes(Abbreviation { characters, key }))
-    }
-}
-
-/// Whether a line is empty or begins with `#`.
-fn is_skipped(line: &str) -> bool
-    ensures { IsTrue result ↔ IsSkipped line.now }
-{
-    match line.as_bytes() {
-        [] => true,
-        [first, ..] => *first == b'#',
     }
 }
 

@@ -10,58 +10,37 @@ use std::alloc::{AllocError, Global};
 /// The greatest code point.
 const LAST: u32 = 0x10_FFFF;
 
-/// The character that an escape stands for, and what follows the escape.
-#[derive(Drop)]
-struct Escape<'a> {
-    character: char,
-    rest: &'a str,
-}
-
-/// The escape at the start of a text, after its backslash.
-fn escape_at(text: &str) -> Option<Escape<'_>>
+/// The character of the escape at the start of a text, after its backslash, and what follows it.
+fn escape_at(text: &str) -> Option<(char, &str)>
     ensures { MatchOption result (IsNoEscape text.now)
-        (λ escape. IsOnlyEscape text.now escape.character escape.rest.now) }
+        (λ escape. IsOnlyEscape text.now escape.0 escape.1.now) }
 {
     if let Some(rest) = after(text, "n") {
-        return Some(Escape {
-            character: '\n',
-            rest,
-        });
+        return Some(('\n', rest));
     }
     if let Some(rest) = after(text, "r") {
-        return Some(Escape {
-            character: '\r',
-            rest,
-        });
+        return Some(('\r', rest));
     }
     if let Some(rest) = after(text, "t") {
-        return Some(Escape {
-            character: '\t',
-            rest,
-        });
+        return Some(('\t', rest));
     }
     if let Some(rest) = after(text, "\\") {
-        return Some(Escape {
-            character: '\\',
-            rest,
-        });
+        return Some(('\\', rest));
     }
     numbered(text)
 }
 
-/// The escape `u{H..}` at the start of a text, of one to six hexadecimal digits of a character.
-fn numbered(text: &str) -> Option<Escape<'_>>
+/// The character of the escape `u{H..}` at the start of a text, of one to six hexadecimal digits,
+/// and what follows it.
+fn numbered(text: &str) -> Option<(char, &str)>
     ensures { MatchOption result (IsNoNumberEscape text.now)
-        (λ escape. IsOnlyEscape text.now escape.character escape.rest.now) }
+        (λ escape. IsOnlyEscape text.now escape.0 escape.1.now) }
 {
     let digits = after(text, "u{")?;
     let cut = cut_at(digits, '}')?;
-    let number = hexadecimal(cut.before.as_bytes(), 1, 6, LAST)?;
+    let number = hexadecimal(cut.0.as_bytes(), 1, 6, LAST)?;
     let character = char::from_u32(number)?;
-    Some(Escape {
-        character,
-        rest: cut.after,
-    })
+    Some((character, cut.1))
 }
 
 /// The characters that the text of an edit writes, each as itself or as an escape; none where a
@@ -71,13 +50,13 @@ pub(crate) fn word_of(alloc: Global, text: &str) -> Result<Option<Word>, AllocEr
 {
     let mut word = String::new(alloc);
     let mut rest = text;
-    while let Some(cut) = cut_at(rest, '\\') {
-        let Some(escape) = escape_at(cut.after) else {
+    while let Some((before, escaped)) = cut_at(rest, '\\') {
+        let Some((character, next)) = escape_at(escaped) else {
             return Ok(None);
         };
-        word.push_str(cut.before)?;
-        push_character(&mut word, escape.character)?;
-        rest = escape.rest;
+        word.push_str(before)?;
+        push_character(&mut word, character)?;
+        rest = next;
     }
     word.push_str(rest)?;
     let word = Word::new(alloc, &word)?;

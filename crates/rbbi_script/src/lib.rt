@@ -21,6 +21,6 @@ mod statuses;
 pub use command::{Command, Commands};
 pub use laws::one_script;
 pub use performing::{perform, perform_by};
-pub use reader::{ScriptErr, read_script};
+pub use reader::{ScriptErr, is_skipped, read_script};
 pub use saying::{Said, say};
 pub use statuses::{say_bound, say_list};

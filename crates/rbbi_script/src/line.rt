@@ -29,14 +29,14 @@ pub(crate) fn command_of(alloc: Global, line: &str) -> Result<Option<Command>, A
 fn insert_of(alloc: Global, fields: &str) -> Result<Option<Command>, AllocError>
     ensures { IfOk result (IsCommandOf (codes "insert " ++ fields.now)) }
 {
-    let Some(at) = first_field(fields) else {
+    let Some((at, rest)) = first_field(fields) else {
         return Ok(None);
     };
-    let Some(text) = word_of(alloc, at.rest)? else {
+    let Some(text) = word_of(alloc, rest)? else {
         return Ok(None);
     };
     Ok(Some(Command::Replace {
-        at: at.number,
+        at,
         remove: 0,
         text,
     }))
@@ -46,36 +46,28 @@ fn insert_of(alloc: Global, fields: &str) -> Result<Option<Command>, AllocError>
 fn delete_of(alloc: Global, fields: &str) -> Result<Option<Command>, AllocError>
     ensures { IfOk result (IsCommandOf (codes "delete " ++ fields.now)) }
 {
-    let Some(at) = first_field(fields) else {
+    let Some((at, rest)) = first_field(fields) else {
         return Ok(None);
     };
-    let Some(remove) = decimal(at.rest.as_bytes(), u32::MAX) else {
+    let Some(remove) = decimal(rest.as_bytes(), u32::MAX) else {
         return Ok(None);
     };
     let text = Word::new(alloc, "")?;
-    Ok(Some(Command::Replace {
-        at: at.number,
-        remove,
-        text,
-    }))
+    Ok(Some(Command::Replace { at, remove, text }))
 }
 
 /// The command of a line that puts a text in place of characters from a place on.
 fn replace_of(alloc: Global, fields: &str) -> Result<Option<Command>, AllocError>
     ensures { IfOk result (IsCommandOf (codes "replace " ++ fields.now)) }
 {
-    let Some(at) = first_field(fields) else {
+    let Some((at, rest)) = first_field(fields) else {
         return Ok(None);
     };
-    let Some(remove) = first_field(at.rest) else {
+    let Some((remove, rest)) = first_field(rest) else {
         return Ok(None);
     };
-    let Some(text) = word_of(alloc, remove.rest)? else {
+    let Some(text) = word_of(alloc, rest)? else {
         return Ok(None);
     };
-    Ok(Some(Command::Replace {
-        at: at.number,
-        remove: remove.number,
-        text,
-    }))
+    Ok(Some(Command::Replace { at, remove, text }))
 }

@@ -13,42 +13,21 @@ pub(crate) fn after<'a>(text: &'a str, word: &str) -> Option<&'a str>
     text.strip_prefix(word)
 }
 
-/// What stands before and after a character of a text.
-#[derive(Drop)]
-pub(crate) struct Cut<'a> {
-    pub(crate) before: &'a str,
-    pub(crate) after: &'a str,
-}
-
 /// What stands before and after the first of an ASCII character, where the text has one.
-pub(crate) fn cut_at(text: &str, at: char) -> Option<Cut<'_>>
+pub(crate) fn cut_at(text: &str, at: char) -> Option<(&str, &str)>
     requires { at < 128 }
     ensures { MatchOption result (HasNone at text.now)
-        (λ cut. IsFirstCut at text.now cut.before.now cut.after.now) }
+        (λ cut. IsFirstCut at text.now cut.0.now cut.1.now) }
 {
-    let parts = text.split_once(at)?;
-    Some(Cut {
-        before: parts.0,
-        after: parts.1,
-    })
-}
-
-/// A number and what follows it and a space.
-#[derive(Drop)]
-pub(crate) struct Field<'a> {
-    pub(crate) number: u32,
-    pub(crate) rest: &'a str,
+    text.split_once(at)
 }
 
 /// The number up to the first space of a text, and what follows that.
-pub(crate) fn first_field(text: &str) -> Option<Field<'_>>
+pub(crate) fn first_field(text: &str) -> Option<(u32, &str)>
     ensures { MatchOption result ((n : ℕ) (rest : List ℕ) → ¬ IsField text.now n rest)
-        (λ field. IsOnlyField text.now field.number field.rest.now) }
+        (λ field. IsOnlyField text.now field.0 field.1.now) }
 {
     let cut = cut_at(text, ' ')?;
-    let number = decimal(cut.before.as_bytes(), u32::MAX)?;
-    Some(Field {
-        number,
-        rest: cut.after,
-    })
+    let number = decimal(cut.0.as_bytes(), u32::MAX)?;
+    Some((number, cut.1))
 }

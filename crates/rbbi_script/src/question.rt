@@ -27,29 +27,16 @@ pub(crate) fn other_of(line: &str) -> Option<Command>
 fn command_named(name: &str) -> Option<Command>
     ensures { option_map meaning result ≡ named name.now }
 {
-    if name == "first" {
-        return Some(Command::First);
+    match name {
+        "first" => Some(Command::First),
+        "last" => Some(Command::Last),
+        "next" => Some(Command::Next),
+        "previous" => Some(Command::Previous),
+        "current" => Some(Command::Current),
+        "status" => Some(Command::Status),
+        "statuses" => Some(Command::Statuses),
+        "breaks" => Some(Command::Breaks),
+        "text" => Some(Command::Text),
+        _ => None,
     }
-    if name == "last" {
-        return Some(Command::Last);
-    }
-    if name == "next" {
-        return Some(Command::Next);
-    }
-    if name == "previous" {
-        return Some(Command::Previous);
-    }
-    if name == "current" {
-        return Some(Command::Current);
-    }
-    if name == "status" {
-        return Some(Command::Status);
-    }
-    if name == "statuses" {
-        return Some(Command::Statuses);
-    }
-    if name == "breaks" {
-        return Some(Command::Breaks);
-    }
-    (name == "text").then_some(Command::Text)
 }

@@ -58,8 +58,8 @@ impl LineValue for Command {
     }
 }
 
-/// Whether a line is empty or begins with `#`.
-fn is_skipped(line: &str) -> bool
+/// Whether a line of a script or of a list is skipped: it is empty or begins with `#`.
+pub fn is_skipped(line: &str) -> bool
     ensures { IsTrue result ↔ IsSkipped line.now }
 {
     match line.as_bytes() {

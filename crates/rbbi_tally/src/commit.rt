@@ -47,21 +47,6 @@ fn keep_tail(pieces: &[Piece], items: &mut Vec<Kept>, start: u32, met: Spot, edi
 }
 
 /// Moves the pieces from a number on, which lie after an edit.
-fn shift_from(pieces: &mut [Piece], past: usize, edit: Edit)
-    requires pieces { ArePieces pieces.old }
-    requires past { past ≤ length pieces.old }
-    requires movable { AllByRecursion (CanShift edit) (drop past pieces.old) }
-    ensures pieces { ArePieces pieces.new }
-    ensures before { take past pieces.new ≡ take past pieces.old }
-    ensures behind { contents (drop past pieces.new)
-        ≡ map (moved edit.removed edit.inserted) (contents (drop past pieces.old)) }
-{
-    for k in past..pieces.len() {
-        pieces[k].shift(edit.removed, edit.inserted);
-    }
-}
-
-/// Moves the pieces from a number on, which lie after an edit.
 fn shift_behind(pieces: &mut Vec<Piece>, past: usize, edit: Edit)
     requires pieces { ArePieces pieces.old.items }
     requires past { past ≤ length pieces.old.items }
@@ -73,7 +58,9 @@ fn shift_behind(pieces: &mut Vec<Piece>, past: usize, edit: Edit)
     ensures len { length pieces.new.items ≡ length pieces.old.items }
     ensures room { vec_capacity pieces.new ≡ vec_capacity pieces.old }
 {
-    shift_from(pieces, past, edit);
+    for k in past..pieces.len() {
+        pieces[k].shift(edit.removed, edit.inserted);
+    }
 }
 
 /// Cuts the piece that a spot is in, before the spot, and gives the number of pieces before it.

@@ -8,7 +8,7 @@ ghost use Rattle.rbbi_tally.specs.Tallies.{boundaries_of, EditAnswers, EditReads
 use crate::commit::commit;
 use crate::counts::{Counts, count_of, total, values_of};
 use crate::edit::Edit;
-use crate::open::{Opened, segments_of};
+use crate::open::segments_of;
 use crate::piece::Piece;
 use crate::search::search_again;
 use crate::spot::{first_reaching, place_at};
@@ -68,17 +68,12 @@ impl<'a, T: EditText + Drop> Tally<'a, T> {
             steps.old steps.new }
     {
         let opened = segments_of(alloc, table, &text, steps)?;
-        let Opened {
-            pieces,
-            counts,
-            marks,
-        } = opened;
         Ok(Tally {
             table,
             text,
-            pieces,
-            counts,
-            marks,
+            pieces: opened.pieces,
+            counts: opened.counts,
+            marks: opened.marks,
             alloc,
         })
     }

@@ -144,30 +144,6 @@ fn put_mapped_boundaries<G: CharMap, K: Sink, L: Ledger>(
     put_searched_boundaries(alloc, table, &turned, filter, out, steps)
 }
 
-/// Writes the lines of all boundaries of a text by a table that are reported through a filter, in
-/// pieces.
-fn put_boundaries_through<K: Sink, L: Ledger>(
-    alloc: Global,
-    table: &Table,
-    text: &PlainText,
-    filter: &Filter,
-    out: &mut K,
-    steps: &mut Steps<L>,
-) -> Result<(), WriteErr>
-    ensures { Puts (boundary_lines (boundaries_through filter.now table.now text.now))
-        (breaks_through filter.now table.now text.now 0) result
-        (K.taken out.old) (K.taken out.new) (K.faults out.old) (K.faults out.new)
-        steps.old steps.new }
-{
-    match filter {
-        Filter::Suppressing(_) => put_searched_boundaries(alloc, table, text, filter, out, steps),
-        Filter::Turning(pairs) => {
-            let map = |c: char| pairs.turn(c);
-            put_mapped_boundaries(alloc, table, text, pairs, &map, filter, out, steps)
-        }
-    }
-}
-
 /// Writes the lines of all boundaries of a text by a table that are reported, in a unit or through a
 /// filter, in pieces.
 pub(crate) fn put_boundaries<K: Sink, L: Ledger>(
@@ -184,8 +160,14 @@ pub(crate) fn put_boundaries<K: Sink, L: Ledger>(
         (K.taken out.old) (K.taken out.new) (K.faults out.old) (K.faults out.new)
         steps.old steps.new }
 {
+    let Some(filter) = filter else {
+        return put_unit_boundaries(alloc, table, text, unit, out, steps);
+    };
     match filter {
-        None => put_unit_boundaries(alloc, table, text, unit, out, steps),
-        Some(filter) => put_boundaries_through(alloc, table, text, filter, out, steps),
+        Filter::Suppressing(_) => put_searched_boundaries(alloc, table, text, filter, out, steps),
+        Filter::Turning(pairs) => {
+            let map = |c: char| pairs.turn(c);
+            put_mapped_boundaries(alloc, table, text, pairs, &map, filter, out, steps)
+        }
     }
 }

@@ -7,7 +7,7 @@ ghost use Rattle.rbbi_tool.specs.inner.Stages.{Meets};
 ghost use Rattle.rbbi_command.specs.Inputs.{inputs_in, AreShort};
 ghost use Rattle.rbbi_tool.specs.Properties as spec;
 
-use rbbi_command::{Inputs, Name, Options, Place, Property, Refusal, Subject, fault};
+use rbbi_command::{Inputs, Options, Place, Property, Refusal, file_fault};
 use rbbi_props::{PropErr, PropTable};
 use rbbi_text::{Raw, Steps};
 use std::alloc::Global;
@@ -27,16 +27,11 @@ fn add<L: Ledger>(
         (table.new ≡ table.old ++ named_file property.now.name bytes.now ∷ []) }
     ensures steps { steps.new ≡ steps.old + length bytes.now }
 {
+    let file = property.file.as_str();
     match table.add(property.name.as_str(), bytes.bytes(steps)) {
         Ok(()) => Ok(()),
-        Err(PropErr::NotUtf8(at)) => {
-            let subject = Subject::File(Name::new(alloc, property.file.as_str())?);
-            Err(fault(alloc, subject, "NotUtf8", Place::Byte(at)))
-        }
-        Err(PropErr::BadRow(line)) => {
-            let subject = Subject::File(Name::new(alloc, property.file.as_str())?);
-            Err(fault(alloc, subject, "BadRow", Place::Row(line)))
-        }
+        Err(PropErr::NotUtf8(at)) => Err(file_fault(alloc, file, "NotUtf8", Place::Byte(at))),
+        Err(PropErr::BadRow(line)) => Err(file_fault(alloc, file, "BadRow", Place::Row(line))),
         Err(PropErr::Memory) => Err(Refusal::Memory),
     }
 }

@@ -10,7 +10,7 @@
 
 mod files;
 
-use files::{PropertyFile, files};
+use files::{FILES, field, unlisted};
 use rbbi_annexes::{Verdict, line_verdicts};
 use rbbi_builtin::Property;
 use std::io::{self, BufWriter, Write};
@@ -19,13 +19,10 @@ use std::{env, fs};
 use ucd_table::UNICODE_VERSION;
 use unicode_segmentation::UnicodeSegmentation;
 
-/// Writes a line for each file.
-fn list<W: Write>(out: &mut W) -> io::Result<()> {
-    for file in &files() {
-        writeln!(out, "{} {}", file.name, file.property.runs().len())?;
-    }
-    Ok(())
-}
+/// What the first line of a file goes on with after its name and version.
+const HEAD: &str = ", modified: it has no names
+# of characters, and neighbouring ranges of one value are one range.
+# Made by bin/make-unicode. The licence of the data is LICENSE-UNICODE.";
 
 /// The name that a value with a number has in files, the first of its names.
 fn value_of(property: Property, number: u32) -> &'static str {
@@ -41,31 +38,20 @@ fn value_of(property: Property, number: u32) -> &'static str {
 }
 
 /// Writes a file: what it is, and a row for each run of a value that is listed.
-fn write_file<W: Write>(out: &mut W, file: &PropertyFile) -> io::Result<()> {
+fn write_file<W: Write>(out: &mut W, name: &str, property: Property) -> io::Result<()> {
     let (major, minor, update) = UNICODE_VERSION;
-    writeln!(
-        out,
-        "# {} of Unicode {major}.{minor}.{update}, modified: it has no names",
-        file.name
-    )?;
-    writeln!(
-        out,
-        "# of characters, and neighbouring ranges of one value are one range."
-    )?;
-    writeln!(
-        out,
-        "# Made by bin/make-unicode. The licence of the data is LICENSE-UNICODE."
-    )?;
-    if !file.unlisted.is_empty() {
-        writeln!(out, "# @missing: 0000..10FFFF; {}", file.unlisted)?;
+    writeln!(out, "# {name} of Unicode {major}.{minor}.{update}{HEAD}")?;
+    let unlisted = unlisted(property);
+    if !unlisted.is_empty() {
+        writeln!(out, "# @missing: 0000..10FFFF; {unlisted}")?;
     }
+    let field = field(property);
     let mut first = 0;
-    for run in file.property.runs() {
+    for run in property.runs() {
         let end = run / 2048;
-        let value = value_of(file.property, run % 2048);
-        if value != file.unlisted && !value.is_empty() && first < end {
+        let value = value_of(property, run % 2048);
+        if value != unlisted && !value.is_empty() && first < end {
             let last = end - 1;
-            let field = file.field;
             if first == last {
                 writeln!(out, "{first:04X} ; {field}{value}")?;
             } else {
@@ -79,14 +65,9 @@ fn write_file<W: Write>(out: &mut W, file: &PropertyFile) -> io::Result<()> {
 
 /// Writes the start of each line of a text, in bytes, where the definition lets the line be broken.
 fn write_lines<W: Write>(rt: &HostRuntime, out: &mut W, text: &str) -> io::Result<()> {
-    let mut chars = Vec::new(rt.alloc());
-    let mut starts = Vec::new(rt.alloc());
-    for (start, c) in text.char_indices() {
-        chars.push(c)?;
-        starts.push(start)?;
-    }
+    let chars: Vec<char> = text.chars().collect(rt.alloc())?;
     let verdicts = line_verdicts(rt.alloc(), chars.as_slice())?;
-    for (start, verdict) in starts.iter().zip(verdicts.iter()) {
+    for ((start, _), verdict) in text.char_indices().zip(verdicts.iter()) {
         match *verdict {
             Verdict::MustBreak => writeln!(out, "{start} 100")?,
             Verdict::MayBreak => writeln!(out, "{start} 0")?,
@@ -123,13 +104,15 @@ fn write_starts<W: Write>(out: &mut W, kind: &str, text: &str) -> io::Result<boo
 fn answer<W: Write>(rt: &HostRuntime, out: &mut W, words: &[String]) -> io::Result<bool> {
     match words {
         [] => {
-            list(out)?;
+            for (name, property) in FILES {
+                writeln!(out, "{name} {}", property.runs().len())?;
+            }
             Ok(true)
         }
-        [name] => {
-            for file in &files() {
-                if file.name == name.as_str() {
-                    write_file(out, file)?;
+        [wanted] => {
+            for (name, property) in FILES {
+                if name == wanted.as_str() {
+                    write_file(out, name, property)?;
                     return Ok(true);
                 }
             }
@@ -148,10 +131,7 @@ fn answer<W: Write>(rt: &HostRuntime, out: &mut W, words: &[String]) -> io::Resu
 }
 
 fn main(rt: HostRuntime) -> io::Result<ExitCode> {
-    let mut words = Vec::new(rt.alloc());
-    for word in env::args(&rt)?.skip(1) {
-        words.push(word)?;
-    }
+    let words: Vec<String> = env::args(&rt)?.skip(1).collect(rt.alloc())?;
     let mut out = BufWriter::new(rt.alloc(), io::writer(&rt))?;
     let is_answered = answer(&rt, &mut out, &words)?;
     out.flush()?;

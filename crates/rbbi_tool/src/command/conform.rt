@@ -109,16 +109,11 @@ fn output_of(alloc: Global, report: Report) -> Result<Output, AllocError>
         ≡ report.lines.items ++ verdicts_line report.passed report.failed) }
     ensures file { IfOk result (λ output. output.file ≡ None) }
 {
-    let Report {
-        lines,
-        passed,
-        failed,
-    } = report;
-    let end = counts_line(alloc, passed, failed)?;
-    let mut bytes = lines;
+    let end = counts_line(alloc, report.passed, report.failed)?;
+    let mut bytes = report.lines;
     bytes.extend_from_slice(&end)?;
     Ok(Output {
-        status: status_of(failed),
+        status: status_of(report.failed),
         bytes,
         file: None,
     })

@@ -12,20 +12,20 @@ loop-point-init c =
 
 pub returns-in_default-pair_of : goal.returns-in_default-pair_of
 returns-in_default-pair_of c =
-    IsMarking-bad c.args.words.now (chars (string_bytes c.loop-point.text)) c.loop-point.marks.items c.loop-point.rest.now c.in-Some.point.word.now
-    c.in-Some.point.rest.now c.loop-point.invariant c.in-Some.ensures
+    IsMarking-bad c.args.words.now (chars (string_bytes c.loop-point.text)) c.loop-point.marks.items c.loop-point.rest.now c.in-Some.point.now
+    c.in-Some.after.now c.loop-point.invariant c.in-Some.ensures
     c.in_default-pair_of.ensures
 
 pub loop-point-preserved : goal.loop-point-preserved
 loop-point-preserved c =
     let words = c.args.words.now in
-    let left = c.in-Some-pair_of.pair.rest.now in
-    let text = chars (string_bytes c.loop-point.text) ++ c.in-Some-pair_of.pair.character ∷ [] in
+    let left = c.in-Some-pair_of.next.now in
+    let text = chars (string_bytes c.loop-point.text) ++ c.in-Some-pair_of.character ∷ [] in
     subst (λ t. IsMarking words t c.push.new.self.items left) (sym c.in_ok-push_character.ensures)
     (subst (λ m. IsMarking words text m left) (sym c.in_ok-push.ensures.items)
-    (IsMarking-more words (chars (string_bytes c.loop-point.text)) c.loop-point.marks.items c.loop-point.rest.now c.in-Some.point.word.now
-    c.in-Some.point.rest.now c.in-Some-pair_of.pair.character
-    c.in-Some-pair_of.pair.mark left c.loop-point.invariant c.in-Some.ensures c.in-Some-pair_of.ensures))
+    (IsMarking-more words (chars (string_bytes c.loop-point.text)) c.loop-point.marks.items c.loop-point.rest.now c.in-Some.point.now
+    c.in-Some.after.now c.in-Some-pair_of.character
+    c.in-Some-pair_of.mark left c.loop-point.invariant c.in-Some.ensures c.in-Some-pair_of.ensures))
 
 pub returns : goal.returns
 returns c =

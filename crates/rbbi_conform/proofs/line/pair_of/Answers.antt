@@ -8,10 +8,10 @@ mark_length word false is = ap length is
 
 pub returns : goal.returns
 returns c =
-    let two = mark_length c.in_ok-sign.sign.word.now c.in_ok-mark.mark c.in_ok-mark.ensures in
+    let two = mark_length c.in_ok-sign.sign.0.now c.in_ok-mark.mark c.in_ok-mark.ensures in
     let four = c.in_ok-character.ensures.1 in
     let parts = c.in_ok-sign.ensures.parts in record {
-      sign = c.in_ok-sign.sign.word.now;
+      sign = c.in_ok-sign.sign.0.now;
       words = c.in_ok-sign.ensures.words;
       is_point = c.in_ok-character.ensures.0;
       is_mark = c.in_ok-mark.ensures;

@@ -13,12 +13,12 @@ no_count digits none m some = let clash : None ≡ Some m = none ∙ some in cc
 
 pub returns-in_default-decimal : goal.returns-in_default-decimal
 returns-in_default-decimal c =
-    delete_no_count c.args.fields.now c.in-Some.at.number c.in-Some.at.rest.now c.in-Some.ensures
-    (no_count c.in-Some.at.rest.now (c.in_default-decimal.ensures.value ∙ ap (decimal most_number) c.as_bytes.ensures.value))
+    delete_no_count c.args.fields.now c.in-Some.at c.in-Some.rest.now c.in-Some.ensures
+    (no_count c.in-Some.rest.now (c.in_default-decimal.ensures.value ∙ ap (decimal most_number) c.as_bytes.ensures.value))
 
 pub returns : goal.returns
 returns c =
     let empty : c.in_ok-text.text ≡ [] = c.in_ok-text.ensures ∙ chars-nil in
     rw empty
-    (deletes c.args.fields.now c.in-Some.at.number c.in-Some.at.rest.now c.in-Some-decimal.remove c.in-Some.ensures.is
+    (deletes c.args.fields.now c.in-Some.at c.in-Some.rest.now c.in-Some-decimal.remove c.in-Some.ensures.is
     (ap (decimal most_number) (sym c.as_bytes.ensures.value) ∙ sym c.in-Some-decimal.ensures.value))

@@ -8,5 +8,5 @@ returns-in_default c = insert_no_place c.args.fields.now c.in_default.ensures
 
 pub returns-in_default-2 : goal.returns-in_default-2
 returns-in_default-2 c =
-    insert_no_text c.args.fields.now c.in-Some.at.number c.in-Some.at.rest.now c.in-Some.ensures
-    (subst (AreCharactersOf c.in-Some.at.rest.now) c.in_default-2.is c.in_ok-text.ensures)
+    insert_no_text c.args.fields.now c.in-Some.at c.in-Some.rest.now c.in-Some.ensures
+    (subst (AreCharactersOf c.in-Some.rest.now) c.in_default-2.is c.in_ok-text.ensures)

@@ -8,10 +8,10 @@ returns-in_default c = replace_no_place c.args.fields.now c.in_default.ensures
 
 pub returns-in_default-first_field : goal.returns-in_default-first_field
 returns-in_default-first_field c =
-    replace_no_count c.args.fields.now c.in-Some.at.number c.in-Some.at.rest.now c.in-Some.ensures c.in_default-first_field.ensures
+    replace_no_count c.args.fields.now c.in-Some.at c.in-Some.rest.now c.in-Some.ensures c.in_default-first_field.ensures
 
 pub returns-in_default-2 : goal.returns-in_default-2
 returns-in_default-2 c =
-    replace_no_text c.args.fields.now c.in-Some.at.number c.in-Some.at.rest.now c.in-Some-first_field.remove.number c.in-Some-first_field.remove.rest.now
+    replace_no_text c.args.fields.now c.in-Some.at c.in-Some.rest.now c.in-Some-first_field.remove c.in-Some-first_field.rest.now
     c.in-Some.ensures c.in-Some-first_field.ensures
-    (subst (AreCharactersOf c.in-Some-first_field.remove.rest.now) c.in_default-2.is c.in_ok-text.ensures)
+    (subst (AreCharactersOf c.in-Some-first_field.rest.now) c.in_default-2.is c.in_ok-text.ensures)

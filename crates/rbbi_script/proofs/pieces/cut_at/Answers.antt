@@ -1,12 +1,13 @@
-use Rattle.std.proofs.lemmas.Str.Pattern.{split_parts}
-use Rattle.std.proofs.Common.{Some, None}
+use Rattle.std.proofs.Common.{ℕ, ◌<◌, List, Option, Some, None, MatchOption, Bor}
+use Rattle.std.proofs.lemmas.Str.Pattern.{IsSplitOnceResult, split_parts}
+use Rattle.rbbi_script.specs.inner.Readings.{HasNone, IsFirstCut}
 use Rattle.rbbi_script.proofs.pieces.cut_at.Goals as goal
 
-pub returns-in_err-parts : goal.returns-in_err-parts
-returns-in_err-parts c =
-    rw c.from_residual.ensures (split_parts c.args.at c.args.text.now None c.in_err-parts.ensures.cases c.requires)
+first_cut : (at : ℕ) (text : List ℕ) (found : Option (Bor (List ℕ) × Bor (List ℕ))) → IsSplitOnceResult at text found → at < 128 →
+    MatchOption found (HasNone at text) (λ cut. IsFirstCut at text cut.0.now cut.1.now)
+first_cut at text None h low = split_parts at text None h low
+first_cut at text (Some cut) h low =
+    let parts = split_parts at text (Some cut) h low in record { parts = parts.0; first = parts.1 }
 
 pub returns : goal.returns
-returns c =
-    let parts = split_parts c.args.at c.args.text.now (Some c.in_ok-parts.parts) c.in_ok-parts.ensures.cases c.requires in
-    record { parts = parts.0; first = parts.1 }
+returns c = first_cut c.args.at c.args.text.now c.split_once.result c.split_once.ensures.cases c.requires

@@ -1,4 +1,4 @@
-use Rattle.rbbi_cases.proofs.played.Run.of.Given as goal
+use Rattle.rbbi_cases.proofs.played.run.Given as goal
 
 -- a ledger of its own
 abbrev pub ghosts-status_of : goal.ghosts-status_of
