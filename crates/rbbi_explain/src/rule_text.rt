@@ -1,0 +1,155 @@
+//! The lines on which rules stand, and their texts.
+
+use rbbi_resolve::Rules;
+use std::alloc::{AllocError, Global};
+
+/// At most this many characters of a rule are kept.
+const MOST: u32 = 160;
+
+/// A rule as its file has it.
+#[derive(Debug, Drop)]
+pub struct RuleText {
+    /// The line of its first token, from 1. Lines end at LF.
+    pub line: u32,
+    /// The rule up to its `;`, without comments and with one space for white space that is outside
+    /// of quotes. Of a rule of more than 160 characters the first ones, and then ` ..`.
+    pub text: String,
+}
+
+/// What of a rule was gone over.
+#[derive(Drop)]
+struct Scan {
+    made: RuleText,
+    count: u32,
+    /// How many sets are open.
+    sets: u32,
+    is_quoted: bool,
+    is_escaped: bool,
+    is_comment: bool,
+    /// Whether white space was left out since the last character.
+    is_apart: bool,
+    is_over: bool,
+}
+
+/// Whether it is white space (Pattern_White_Space, UAX #31).
+fn is_space(c: char) -> bool {
+    matches!(
+        c,
+        '\t'..='\r' | ' ' | '\u{85}' | '\u{200E}' | '\u{200F}' | '\u{2028}' | '\u{2029}'
+    )
+}
+
+/// Whether a comment ends here.
+fn ends_comment(c: char) -> bool {
+    matches!(c, '\n' | '\r' | '\u{85}' | '\u{2028}')
+}
+
+impl Scan {
+    /// That of a rule that begins on a line.
+    fn new(alloc: Global, line: u32) -> Scan {
+        let text = String::new(alloc);
+        Scan {
+            made: RuleText { line, text },
+            count: 0,
+            sets: 0,
+            is_quoted: false,
+            is_escaped: false,
+            is_comment: false,
+            is_apart: false,
+            is_over: false,
+        }
+    }
+
+    /// Adds a character, unless there are too many.
+    fn add(&mut self, c: char) -> Result<(), AllocError> {
+        let is_apart = self.is_apart && self.count > 0;
+        self.is_apart = false;
+        self.count = self.count.saturating_add(1);
+        if self.count > MOST {
+            return Ok(());
+        }
+        if is_apart {
+            self.made.text.push(' ')?;
+        }
+        self.made.text.push(c)
+    }
+
+    /// Notes what a character that is in no quotes and no comment begins or ends.
+    fn note(&mut self, c: char) {
+        match c {
+            '\\' => self.is_escaped = true,
+            '[' => self.sets = self.sets.saturating_add(1),
+            ']' => self.sets = self.sets.saturating_sub(1),
+            '\'' => self.is_quoted = self.sets == 0,
+            ';' => self.is_over = self.sets == 0,
+            _ => {}
+        }
+    }
+
+    /// Goes over a character.
+    fn take(&mut self, c: char) -> Result<(), AllocError> {
+        if self.is_escaped {
+            self.is_escaped = false;
+        } else if self.is_quoted {
+            self.is_quoted = c != '\'';
+        } else if self.is_comment {
+            self.is_comment = !ends_comment(c);
+            return Ok(());
+        } else if is_space(c) {
+            self.is_apart = true;
+            return Ok(());
+        } else if c == '#' && self.sets == 0 {
+            self.is_comment = true;
+            self.is_apart = true;
+            return Ok(());
+        } else {
+            self.note(c);
+        }
+        self.add(c)
+    }
+
+    /// What was made of the rule.
+    fn finish(self) -> Result<RuleText, AllocError> {
+        let Scan {
+            mut made,
+            count,
+            ..
+        } = self;
+        if count > MOST {
+            made.text.push_str(" ..")?;
+        }
+        Ok(made)
+    }
+}
+
+/// The lines and the texts of rules, in their order, in the text of the file that they were read
+/// from.
+pub fn rule_texts(alloc: Global, text: &str, rules: &Rules) -> Result<Vec<RuleText>, AllocError> {
+    let mut texts = Vec::new(alloc);
+    let mut line: u32 = 1;
+    let mut place: u32 = 0;
+    let mut open: Option<Scan> = None;
+    for c in text.chars() {
+        if open.is_none() && is_at(rules, texts.len(), place) {
+            open = Some(Scan::new(alloc, line));
+        }
+        if let Some(mut scan) = open.take() {
+            scan.take(c)?;
+            if scan.is_over {
+                texts.push(scan.finish()?)?;
+            } else {
+                open = Some(scan);
+            }
+        }
+        if c == '\n' {
+            line = line.saturating_add(1);
+        }
+        place = place.saturating_add(1);
+    }
+    Ok(texts)
+}
+
+/// Whether the rule with this number stands at a place.
+fn is_at(rules: &Rules, number: usize, place: u32) -> bool {
+    number < rules.len() && rules.get(number).place == place
+}
