@@ -11,15 +11,17 @@ _segment() {
     fi
     case $before in
     -b | --by) COMPREPLY=($(compgen -W 'grapheme word sentence line' -- "$word")) ;;
-    -f | --format) COMPREPLY=($(compgen -W 'text json marked' -- "$word")) ;;
+    -f | --format) COMPREPLY=($(compgen -W 'text json plain marked lines' -- "$word")) ;;
     -u | --units) COMPREPLY=($(compgen -W 'chars utf8 utf16' -- "$word")) ;;
     --color) COMPREPLY=($(compgen -W 'auto always never' -- "$word")) ;;
-    -o | --only) ;;
+    -o | --only | --mark | --width | --why) ;;
+    --suppress) compopt -o filenames && COMPREPLY=($(compgen -W 'en de' -f -- "$word")) ;;
     *)
         case $word in
         -*)
-            COMPREPLY=($(compgen -W '--by --rules --table --check --prop --ignore-dictionary --format
-                --count --units --only --color --help --version' -- "$word"))
+            COMPREPLY=($(compgen -W '--by --rules --table --check --lint --why --prop
+                --ignore-dictionary --format --mark --width --null --count --units --only --only-words --suppress
+                --tailor --lossy --explain --color --help --version' -- "$word"))
             ;;
         *) compopt -o filenames && COMPREPLY=($(compgen -f -- "$word")) ;;
         esac

@@ -1,8 +1,10 @@
 -- Bytes that are made and put bit by bit: of all that were made a front was put, and the others wait.
-use Rattle.std.proofs.Common.{◌≡◌, ℕ, ◌-◌, ◌+◌, ◌<◌, ◌≤◌, List, [], ◌∷◌, ◌++◌, length, take, drop, get_or, Option, Some, None, refl, sym, ap, ◌∙◌}
-use Rattle.std.proofs.Common.{append_assoc, append-nil, arith}
+use Rattle.std.proofs.Common.{◌≡◌, ℕ, ◌+◌, ◌<◌, ◌≤◌, List, [], ◌++◌, length, get_or, Option, Some, None, refl, sym, ap, ◌∙◌}
+use Rattle.std.proofs.Common.{append_assoc, append-nil}
 use Rattle.std.specs.List.{flat_map, slice_range}
-use Rattle.std.proofs.lemmas.List.{take_more, flat_map_more, get_or-drop, length-drop}
+use Rattle.std.proofs.lemmas.Grind.{get_or_default_zero}
+use Rattle.std.proofs.lemmas.List.{flat_map_more}
+use Rattle.rbbi_lex.proofs.WordLemmas.{slice_range-none, slice_range-more}
 use Rattle.rbbi_io.specs.Sinks.{Takes, IsBuffered}
 use Rattle.rbbi_io.proofs.Puts.{Takes-both}
 
@@ -39,19 +41,16 @@ pub more_is_made : (before between now : Option (List ℕ)) (made waiting bytes 
 more_is_made before between now made waiting bytes left so_far more =
     more_is_put before between now (made ++ bytes) (waiting ++ bytes) left (more_waits before between made waiting bytes (waiting ++ bytes) so_far refl) more
 
--- a quote and the characters of a piece, as each is written, and one character more
-pub quoted_more : (f : ℕ → List ℕ) (x : List ℕ) (start i c : ℕ) (made : List ℕ) → start ≤ i → i < length x → c ≡ get_or x i 0
-    → (made ++ 34 ∷ flat_map f (slice_range x start i)) ++ f c ≡ made ++ 34 ∷ flat_map f (slice_range x start (i + 1))
-quoted_more f x start i c made first inside is =
-    let n : ℕ = i - start in
-    let count : i + 1 - start ≡ n + 1 = omega arith in
-    let place : start + n ≡ i = omega arith in
-    let within : n < length (drop start x) = omega (arith, length-drop start x) in
-    let here : get_or (drop start x) n 0 ≡ c = get_or-drop start x n 0 ∙ ap (λ k. get_or x k 0) place ∙ sym is in
-    let piece : slice_range x start (i + 1) ≡ slice_range x start i ++ c ∷ [] =
-    ap (λ k. take k (drop start x)) count ∙ take_more (drop start x) n 0 within ∙ ap (λ d. take n (drop start x) ++ d ∷ []) here in
-    append_assoc made (34 ∷ flat_map f (slice_range x start i)) (f c)
-    ∙ ap (λ l. made ++ 34 ∷ l) (flat_map_more f [] (slice_range x start i) c ∙ ap (flat_map f) (sym piece))
+-- no characters of a piece are written yet
+pub none_shown : (f : ℕ → List ℕ) (x : List ℕ) (start : ℕ) (made : List ℕ) → made ≡ made ++ flat_map f (slice_range x start start)
+none_shown f x start made = sym (ap (λ l. made ++ flat_map f l) (slice_range-none x start) ∙ append-nil made)
+
+-- the characters of a piece, as each is written, and one character more
+pub shown_more : (f : ℕ → List ℕ) (x : List ℕ) (start i c : ℕ) (made : List ℕ) → start ≤ i → i < length x → c ≡ get_or x i 0
+    → (made ++ flat_map f (slice_range x start i)) ++ f c ≡ made ++ flat_map f (slice_range x start (i + 1))
+shown_more f x start i c made first inside is =
+    let one = slice_range-more x start i c first inside (is ∙ sym (get_or_default_zero x i c inside)) in
+    flat_map_more f made (slice_range x start i) c ∙ ap (λ l. made ++ flat_map f l) (sym one)
 
 -- three parts behind what was made
 pub three_parts : (made first second third : List ℕ) → ((made ++ first) ++ second) ++ third ≡ made ++ ((first ++ second) ++ third)

@@ -1,91 +1,169 @@
 -- Segments that are handed over one after the other, from boundary to boundary.
-use Rattle.std.proofs.Common.{◌≡◌, ℕ, zero, suc, ◌+◌, ◌<◌, ◌≤◌, List, [], ◌∷◌, ◌++◌, length, cond, refl, sym, ap, ◌∙◌, subst, append_assoc}
-use Rattle.std.proofs.Common.{append-nil, arith, Option}
-use Rattle.std.specs.Prelude.{Result, Ok, Err, OnOk}
+use Rattle.std.proofs.Common.{◌≡◌, ℕ, zero, suc, ◌+◌, ◌<◌, ◌≤◌, Bool, true, false, List, [], ◌∷◌, ◌++◌, length, cond, refl, sym, ap, ◌∙◌, subst}
+use Rattle.std.proofs.Common.{append_assoc, append-nil, arith, Option, Some, None}
+use Rattle.std.specs.Prelude.{Result, Ok, Err, OnOk, filter}
 use Rattle.std.proofs.lemmas.Bool.{lt-ltb, le-ltb}
+use Rattle.std.proofs.lemmas.List.{length-map}
 use Rattle.rbbi_model.specs.declared.unit.Unit.{Unit as TextUnit}
 use Rattle.rbbi_model.specs.Boundaries.{Boundary, start}
 use Rattle.rbbi_model.specs.Tables.{Table}
-use Rattle.rbbi_model.specs.Searches.{next_boundary, follow_by}
+use Rattle.rbbi_model.specs.Searches.{next_boundary, follow_by, table_boundaries}
+use Rattle.rbbi_filter.specs.declared.filter.Filter.{Filter}
+use Rattle.rbbi_filter.specs.declared.filter.Filter.TheVariants.{Suppressing, Turning}
+use Rattle.rbbi_filter.specs.Pairs.{turn}
+use Rattle.rbbi_segment.specs.Filters.{searched, reported, reports}
 use Rattle.rbbi_segment.specs.declared.segments.Segment.{Segment}
-use Rattle.rbbi_segment.specs.Segments.{segment_to, segments_from, segments, AreTaken, NoneTaken, OneMore}
+use Rattle.rbbi_segment.specs.Segments.{segment_to, segments_from, segments_between, segments, AreTaken, NoneTaken, OneMore}
 
--- the boundaries that follow a place, at most so many
-abbrev pub following : Table → List ℕ → ℕ → ℕ → List Boundary
-following table x most at = follow_by (next_boundary table x) (length x) most (record { at = at; statuses = [] })
+-- the boundary is one of those that are reported
+abbrev pub is_kept : (ℕ → Bool) → Boundary → Bool
+is_kept keeps b = keeps b.at
+
+-- the boundaries that follow a place, at most so many, and are reported
+abbrev pub following : (ℕ → Bool) → Table → List ℕ → ℕ → ℕ → List Boundary
+following keeps table z most at = filter (is_kept keeps) (follow_by (next_boundary table z) (length z) most (record { at = at; statuses = [] }))
 
 -- what follows a boundary depends on its place alone
-by_place : (table : Table) (x : List ℕ) (most : ℕ) (b : Boundary) → follow_by (next_boundary table x) (length x) most b ≡ following table x most b.at
-by_place table x zero b = refl
-by_place table x (suc most) b = refl
+by_place : (table : Table) (z : List ℕ) (most : ℕ) (b : Boundary)
+    → follow_by (next_boundary table z) (length z) most b ≡ follow_by (next_boundary table z) (length z) most (record { at = b.at; statuses = [] })
+by_place table z zero b = refl
+by_place table z (suc most) b = refl
 
--- one more segment follows, or none does at the text's end
-follows : (unit : TextUnit) (table : Table) (x : List ℕ) (most at : ℕ) → at < length x
-    → segments_from unit x at (following table x (suc most) at) ≡ segment_to unit x at (next_boundary table x at)
-    ∷ segments_from unit x (next_boundary table x at).at (following table x most (next_boundary table x at).at)
-follows unit table x most at inside =
-    let next : Boundary = next_boundary table x at in
-    ap (λ t. segments_from unit x at (cond t (next ∷ follow_by (next_boundary table x) (length x) most next) [])) (lt-ltb at (length x) inside)
-    ∙ ap (λ bs. segment_to unit x at next ∷ segments_from unit x next.at bs) (by_place table x most next)
+-- one more boundary follows, and is reported or not; none follows at the text's end
+follows : (keeps : ℕ → Bool) (table : Table) (z : List ℕ) (most at : ℕ) → at < length z
+    → following keeps table z (suc most) at ≡ cond (keeps (next_boundary table z at).at)
+    (next_boundary table z at ∷ following keeps table z most (next_boundary table z at).at) (following keeps table z most (next_boundary table z at).at)
+follows keeps table z most at inside =
+    let next : Boundary = next_boundary table z at in
+    ap (λ t. filter (is_kept keeps) (cond t (next ∷ follow_by (next_boundary table z) (length z) most next) [])) (lt-ltb at (length z) inside)
+    ∙ ap (λ bs. filter (is_kept keeps) (next ∷ bs)) (by_place table z most next)
 
-ends_there : (unit : TextUnit) (table : Table) (x : List ℕ) (most at : ℕ) → length x ≤ at → segments_from unit x at (following table x most at) ≡ []
-ends_there unit table x zero at past = refl
-ends_there unit table x (suc most) at past =
-    let next : Boundary = next_boundary table x at in
-    ap (λ t. segments_from unit x at (cond t (next ∷ follow_by (next_boundary table x) (length x) most next) [])) (le-ltb at (length x) past)
+ends_there : (keeps : ℕ → Bool) (table : Table) (z : List ℕ) (most at : ℕ) → length z ≤ at → following keeps table z most at ≡ []
+ends_there keeps table z zero at past = refl
+ends_there keeps table z (suc most) at past =
+    let next : Boundary = next_boundary table z at in
+    ap (λ t. filter (is_kept keeps) (cond t (next ∷ follow_by (next_boundary table z) (length z) most next) [])) (le-ltb at (length z) past)
 
--- The segments up to a place were taken, and those that follow it are the rest.
+-- a filter that leaves all
+filter_all : (bs : List Boundary) → bs ≡ filter (λ b. true) bs
+filter_all [] = refl
+filter_all (b ∷ bs) = ap (λ l. b ∷ l) (filter_all bs)
+
+-- the boundaries that a filter leaves are those that it reports
+each_reported : (f : Option Filter) (x : List ℕ) (bs : List Boundary) → reported f x bs ≡ filter (is_kept (reports f (searched f x))) bs
+each_reported None x bs = filter_all bs
+each_reported (Some (Suppressing list)) x bs = refl
+each_reported (Some (Turning pairs)) x bs = filter_all bs
+
+-- the text's start is reported
+start_reported : (f : Option Filter) (z : List ℕ) → reports f z 0 ≡ true
+start_reported None z = refl
+start_reported (Some (Suppressing list)) z = refl
+start_reported (Some (Turning pairs)) z = refl
+
+-- the searched text is as long as the text
+pub searched_len : (f : Option Filter) (x : List ℕ) → length (searched f x) ≡ length x
+searched_len None x = refl
+searched_len (Some (Suppressing list)) x = refl
+searched_len (Some (Turning pairs)) x = length-map x (turn pairs)
+
+-- all segments are those from the text's start on
+from_start : (unit : TextUnit) (f : Option Filter) (table : Table) (x : List ℕ)
+    → segments unit f table x ≡ segments_from unit x 0 (following (reports f (searched f x)) table (searched f x) (length (searched f x)) 0)
+from_start unit f table x =
+    let z : List ℕ = searched f x in
+    let p : Boundary → Bool = is_kept (reports f z) in
+    let rest : List Boundary = follow_by (next_boundary table z) (length z) (length z) start in
+    ap (segments_between unit x) (each_reported f x (table_boundaries table z))
+    ∙ ap (λ t. segments_between unit x (cond t (start ∷ filter p rest) (filter p rest))) (start_reported f z)
+    ∙ ap (λ bs. segments_from unit x 0 (filter p bs)) (by_place table z (length z) start)
+
+-- The segments up to a boundary that is reported were taken, and those that follow are the rest. Boundaries were looked for up to a place.
 pub record AreHandedTo {V : Type 0} (takes : V → Option (List ℕ) → List ℕ → Segment → V → Option (List ℕ) → Type 0) (unit : TextUnit)
-    (table : Table) (x : List ℕ) (first : V) (before : Option (List ℕ)) (receiver : V) (now : Option (List ℕ)) (at : ℕ) : Type 0 where
+    (keeps : ℕ → Bool) (table : Table) (z x : List ℕ) (all : List Segment) (first : V) (before : Option (List ℕ)) (receiver : V)
+    (now : Option (List ℕ)) (from at : ℕ) : Type 0 where
   pub done : List Segment
   pub most : ℕ
-  pub enough : length x ≤ at + most
-  pub whole : segments unit table x ≡ done ++ segments_from unit x at (following table x most at)
+  pub ahead : from ≤ at
+  pub enough : length z ≤ at + most
+  pub whole : all ≡ done ++ segments_from unit x from (following keeps table z most at)
   pub taken : AreTaken takes x first before done receiver now
 
 module _ {V : Type 0} (takes : V → Option (List ℕ) → List ℕ → Segment → V → Option (List ℕ) → Type 0) (unit : TextUnit)
-    (table : Table) (x : List ℕ) (first : V) (before : Option (List ℕ)) where
+    (f : Option Filter) (table : Table) (z x : List ℕ) (first : V) (before : Option (List ℕ)) where
+  -- what is taken of all segments of the text
+  abbrev pub AreHanded : V → Option (List ℕ) → ℕ → ℕ → Type 0
+  AreHanded receiver now from at = AreHandedTo takes unit (reports f z) table z x (segments unit f table x) first before receiver now from at
+
   -- nothing is taken at the text's start
-  pub handed_start : AreHandedTo takes unit table x first before first before 0
-  handed_start = record {
+  pub handed_start : z ≡ searched f x → AreHanded first before 0 0
+  handed_start is = record {
     done = [];
-    most = length x;
+    most = length z;
+    ahead = omega arith;
     enough = omega arith;
-    whole = ap (segments_from unit x 0) (by_place table x (length x) start);
+    whole = subst (λ y. segments unit f table x ≡ segments_from unit x 0 (following (reports f y) table y (length y) 0)) (sym is) (from_start unit f table x);
     taken = NoneTaken;
   }
 
-  -- one segment more is taken
-  pub handed_more : (receiver next : V) (between now : Option (List ℕ)) (at : ℕ) (segment : Segment)
-      → AreHandedTo takes unit table x first before receiver between at → at < length x → at < (next_boundary table x at).at
-      → segment ≡ segment_to unit x at (next_boundary table x at)
-      → takes receiver between x segment next now
-      → AreHandedTo takes unit table x first before next now segment.end
-  handed_more receiver next between now at segment so_far inside past is takes_it = by_most so_far.most so_far.enough so_far.whole
+  -- a boundary is passed that isn't reported
+  pub handed_passed : (receiver : V) (now : Option (List ℕ)) (from at to : ℕ) → AreHanded receiver now from at → at < length z
+      → at < (next_boundary table z at).at → to ≡ (next_boundary table z at).at → reports f z to ≡ false → AreHanded receiver now from to
+  handed_passed receiver now from at to so_far inside past is hidden = by_most so_far.most so_far.enough so_far.whole
     where
-      by_most : (most : ℕ) → length x ≤ at + most → segments unit table x ≡ so_far.done ++ segments_from unit x at (following table x most at)
-          → AreHandedTo takes unit table x first before next now segment.end
+      by_most : (most : ℕ) → length z ≤ at + most → segments unit f table x ≡ so_far.done ++ segments_from unit x from (following (reports f z) table z most at)
+          → AreHanded receiver now from to
       by_most zero enough whole = absurd (omega arith)
       by_most (suc most) enough whole =
-          let n : ℕ = (next_boundary table x at).at in
-          let end : segment.end ≡ n = ap (λ s. s.end) is in
-          let rest : List Segment = segments_from unit x n (following table x most n) in
-          let one : segments_from unit x at (following table x (suc most) at) ≡ segment ∷ rest =
-          follows unit table x most at inside ∙ ap (λ s. s ∷ rest) (sym is) in
-          subst (AreHandedTo takes unit table x first before next now) (sym end) (record {
+          let n : ℕ = (next_boundary table z at).at in
+          let rest : List Boundary = following (reports f z) table z most n in
+          let kept : reports f z n ≡ false = ap (reports f z) (sym is) ∙ hidden in
+          let one : following (reports f z) table z (suc most) at ≡ rest =
+          follows (reports f z) table z most at inside ∙ ap (λ t. cond t (next_boundary table z at ∷ rest) rest) kept in
+          subst (AreHanded receiver now from) (sym is) (record {
+            done = so_far.done;
+            most = most;
+            ahead = omega (arith, past, so_far.ahead);
+            enough = omega (arith, past);
+            whole = whole ∙ ap (λ bs. so_far.done ++ segments_from unit x from bs) one;
+            taken = so_far.taken;
+          })
+
+  -- one segment more is taken
+  pub handed_more : (receiver next : V) (between now : Option (List ℕ)) (from at to : ℕ) (segment : Segment)
+      → AreHanded receiver between from at → at < length z → at < (next_boundary table z at).at → to ≡ (next_boundary table z at).at
+      → reports f z to ≡ true → segment ≡ segment_to unit x from (next_boundary table z at)
+      → takes receiver between x segment next now → AreHanded next now to to
+  handed_more receiver next between now from at to segment so_far inside past is shown is_it takes_it = by_most so_far.most so_far.enough so_far.whole
+    where
+      by_most : (most : ℕ) → length z ≤ at + most → segments unit f table x ≡ so_far.done ++ segments_from unit x from (following (reports f z) table z most at)
+          → AreHanded next now to to
+      by_most zero enough whole = absurd (omega arith)
+      by_most (suc most) enough whole =
+          let n : ℕ = (next_boundary table z at).at in
+          let bs : List Boundary = following (reports f z) table z most n in
+          let rest : List Segment = segments_from unit x n bs in
+          let kept : reports f z n ≡ true = ap (reports f z) (sym is) ∙ shown in
+          let one : segments_from unit x from (following (reports f z) table z (suc most) at) ≡ segment ∷ rest =
+          ap (segments_from unit x from) (follows (reports f z) table z most at inside)
+          ∙ ap (λ t. segments_from unit x from (cond t (next_boundary table z at ∷ bs) bs)) kept
+          ∙ ap (λ s. s ∷ rest) (sym is_it) in
+          subst (λ m. AreHanded next now m m) (sym is) (record {
             done = so_far.done ++ segment ∷ [];
             most = most;
+            ahead = omega arith;
             enough = omega (arith, past);
             whole = whole ∙ ap (λ l. so_far.done ++ l) one ∙ sym (append_assoc so_far.done (segment ∷ []) rest);
             taken = OneMore so_far.done segment receiver next between now so_far.taken takes_it;
           })
 
   -- at the text's end all are taken
-  pub all_handed : (receiver : V) (now : Option (List ℕ)) (at : ℕ) → AreHandedTo takes unit table x first before receiver now at → length x ≤ at
-      → AreTaken takes x first before (segments unit table x) receiver now
-  all_handed receiver now at so_far past =
+  pub all_handed : (receiver : V) (now : Option (List ℕ)) (from at : ℕ) → AreHanded receiver now from at → length z ≤ at
+      → AreTaken takes x first before (segments unit f table x) receiver now
+  all_handed receiver now from at so_far past =
       subst (λ all. AreTaken takes x first before all receiver now)
-      (sym (so_far.whole ∙ ap (λ l. so_far.done ++ l) (ends_there unit table x so_far.most at past) ∙ append-nil so_far.done))
+      (sym (so_far.whole ∙ ap (λ bs. so_far.done ++ segments_from unit x from bs) (ends_there (reports f z) table z so_far.most at past)
+      ∙ append-nil so_far.done))
       so_far.taken
 
 -- what holds behind an `Ok` leads to more

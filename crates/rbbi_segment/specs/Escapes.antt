@@ -1,7 +1,7 @@
 -- Characters as they are printed: those that would do something to a terminal as escapes.
 use Rattle.std.specs.Prelude.{ℕ, ◌+◌, ◌/◌, ◌%◌, List, [], ◌∷◌, ◌++◌, Bool, true, false, ◌||◌, ◌&&◌, if◌then◌else◌, ◌==◌, nat_lt, nat_le, codes, encode_utf8}
 use Rattle.rbbi_segment.specs.declared.escapes.Within.{Within}
-use Rattle.rbbi_segment.specs.declared.escapes.Within.TheVariants.{Nothing, Quotes, Json}
+use Rattle.rbbi_segment.specs.declared.escapes.Within.TheVariants.{Nothing, Quotes, Json, Bare}
 
 -- the hexadecimal digit of the number's last four bits
 abbrev pub hex_digit : ℕ → ℕ
@@ -25,16 +25,25 @@ abbrev pub escape_of : Within → ℕ → List ℕ
 escape_of Nothing c = codes "\\u{" ++ four_digits c ++ 125 ∷ []
 escape_of Quotes c = codes "\\u{" ++ four_digits c ++ 125 ∷ []
 escape_of Json c = codes "\\u" ++ four_digits c
+escape_of Bare c = codes "\\u{" ++ four_digits c ++ 125 ∷ []
 
 -- quotes and backslashes are escaped here
 abbrev pub is_quoted : Within → Bool
 is_quoted Nothing = false
 is_quoted Quotes = true
 is_quoted Json = true
+is_quoted Bare = false
+
+-- each character is itself here
+abbrev pub is_bare : Within → Bool
+is_bare Nothing = false
+is_bare Quotes = false
+is_bare Json = false
+is_bare Bare = true
 
 -- the character as it is printed
 abbrev pub shown : Within → ℕ → List ℕ
 shown within c =
-    if c == 10 then codes "\\n" else (if c == 13 then codes "\\r" else (if c == 9 then codes "\\t" else
+    if is_bare within then encode_utf8 c else (if c == 10 then codes "\\n" else (if c == 13 then codes "\\r" else (if c == 9 then codes "\\t" else
     (if is_quoted within && (c == 34) then 92 ∷ 34 ∷ [] else (if is_quoted within && (c == 92) then 92 ∷ 92 ∷ [] else
-    (if is_hidden c then escape_of within c else encode_utf8 c)))))
+    (if is_hidden c then escape_of within c else encode_utf8 c))))))

@@ -1,5 +1,5 @@
--- The line of a segment.
-use Rattle.std.specs.Prelude.{◌≡◌, ℕ, List, [], ◌∷◌, ◌++◌, Bool, true, false, not, Option, Some, None, if◌then◌else◌, ◌&&◌, nat_le, slice_range, codes}
+-- What is printed of a segment by itself.
+use Rattle.std.specs.Prelude.{◌≡◌, ℕ, List, [], ◌∷◌, ◌++◌, Bool, true, false, not, Option, Some, None, if◌then◌else◌, ◌&&◌, slice_range, codes}
 use Rattle.std.specs.List.{flat_map}
 use Rattle.std.specs.Fmt.{decimal}
 use Rattle.rbbi_io.specs.Sinks.{IsBuffered}
@@ -9,14 +9,17 @@ use Rattle.rbbi_segment.specs.declared.colors.Color.TheVariants.{Faint, Mark, Fa
 use Rattle.rbbi_segment.specs.declared.colors.When.{When}
 use Rattle.rbbi_segment.specs.declared.colors.When.TheVariants.{Auto, Always, Never}
 use Rattle.rbbi_segment.specs.declared.escapes.Within.{Within}
-use Rattle.rbbi_segment.specs.declared.escapes.Within.TheVariants.{Quotes, Json as InJson}
-use Rattle.rbbi_segment.specs.declared.only.Statuses.{Statuses}
+use Rattle.rbbi_segment.specs.declared.escapes.Within.TheVariants.{Quotes, Json as InJson, Bare}
+use Rattle.rbbi_segment.specs.declared.only.Wanted.{Wanted}
 use Rattle.rbbi_segment.specs.declared.options.Format.{Format}
-use Rattle.rbbi_segment.specs.declared.options.Format.TheVariants.{Text, Json, Marked, Count}
+use Rattle.rbbi_segment.specs.declared.options.Format.TheVariants.{Each, Marked, Lines, Count}
+use Rattle.rbbi_segment.specs.declared.options.Layout.{Layout}
+use Rattle.rbbi_segment.specs.declared.options.Layout.TheVariants.{Text, Json, Plain, Null}
 use Rattle.rbbi_segment.specs.declared.quoted.Style.{Style}
 use Rattle.rbbi_segment.specs.declared.quoted.Quoted.{Quoted}
 use Rattle.rbbi_segment.specs.declared.segments.Segment.{Segment}
 use Rattle.rbbi_segment.specs.Escapes.{shown}
+use Rattle.rbbi_segment.specs.Wanted.{wants}
 
 -- whether there are colours in what goes to a terminal, or not to one
 abbrev pub colors_for : When → Bool → Bool → Colors
@@ -45,50 +48,59 @@ plain_head segment = decimal segment.start_offset ++ (32 ∷ decimal segment.end
 abbrev pub json_head : Segment → List ℕ
 json_head segment =
     codes "{\"start\":" ++ decimal segment.start_offset ++ codes ",\"end\":" ++ decimal segment.end_offset
-    ++ codes ",\"status\":" ++ decimal segment.status ++ codes ",\"text\":"
+    ++ codes ",\"status\":" ++ decimal segment.status ++ codes ",\"text\":\""
 
--- what stands before the quotes
-abbrev pub head : Style → Segment → List ℕ
-head style segment =
-    if style.is_json then json_head segment
-    else color_begin style.colors Faint ++ plain_head segment ++ color_end style.colors ++ 32 ∷ []
+-- the line of a segment up to its text
+abbrev pub text_head : Colors → Segment → List ℕ
+text_head colors segment = color_begin colors Faint ++ plain_head segment ++ color_end colors ++ codes " \""
 
--- how characters stand in the quotes
-abbrev pub within : Style → Within
-within style = if style.is_json then InJson else Quotes
+-- what stands before the characters of a segment
+abbrev pub head : Layout → Colors → Segment → List ℕ
+head Text colors segment = text_head colors segment
+head Json colors segment = json_head segment
+head Plain colors segment = []
+head Null colors segment = []
 
--- characters in quotes
-abbrev pub quoted : Style → List ℕ → List ℕ
-quoted style characters = 34 ∷ flat_map (shown (within style)) characters ++ 34 ∷ []
+-- how characters stand in a line
+abbrev pub within : Layout → Within
+within Text = Quotes
+within Json = InJson
+within Plain = Bare
+within Null = Bare
 
--- what follows the quotes
-abbrev pub tail : Style → List ℕ
-tail style = if style.is_json then 125 ∷ 10 ∷ [] else 10 ∷ []
+-- characters as they stand there
+abbrev pub shown_all : Within → List ℕ → List ℕ
+shown_all within xs = flat_map (shown within) xs
 
--- the line of a segment of the text: where it starts and ends in the unit, its status, and its characters in quotes
+-- what follows the characters of a segment
+abbrev pub tail : Layout → List ℕ
+tail Text = codes "\"\n"
+tail Json = codes "\"}\n"
+tail Plain = codes "\n"
+tail Null = 0 ∷ []
+
+-- A segment of the text by itself: in a line where it starts and ends in the unit, its status, and its characters in quotes, or its
+-- characters as they are.
 abbrev pub line : Style → List ℕ → Segment → List ℕ
-line style x segment = head style segment ++ quoted style (slice_range x segment.start segment.end) ++ tail style
+line style x segment =
+    head style.layout style.colors segment ++ shown_all (within style.layout) (slice_range x segment.start segment.end) ++ tail style.layout
 
--- the status is asked for
-abbrev pub has : Statuses → ℕ → Bool
-has statuses status = nat_le statuses.least status && nat_le status statuses.greatest
-
--- the line of a segment whose status is asked for
+-- the line of a segment that is asked for
 abbrev pub line_if_wanted : Style → List ℕ → Segment → List ℕ
-line_if_wanted style x segment = if has style.only segment.status then line style x segment else []
+line_if_wanted style x segment = if wants style.wanted x segment then line style x segment else []
 
 -- a segment was taken: its line was written or waits
 pub record TakesLine (old : Quoted) (before : Option (List ℕ)) (x : List ℕ) (segment : Segment) (new : Quoted) (now : Option (List ℕ)) : Type 0 where
   pub same : new.style ≡ old.style
   pub put : IsBuffered before now (old.made.items ++ line_if_wanted old.style x segment) new.made.items
 
--- the lines of all segments whose status is asked for
+-- the lines of all segments that are asked for
 abbrev pub lines : Style → List ℕ → List Segment → List ℕ
 lines style x segments = flat_map (line_if_wanted style x) segments
 
--- the lines of all segments in a format that has lines
-abbrev pub lines_in : Format → Statuses → Colors → List ℕ → List Segment → Option (List ℕ)
-lines_in Text only colors x segments = Some (lines (record { is_json = false; only = only; colors = colors }) x segments)
-lines_in Json only colors x segments = Some (lines (record { is_json = true; only = only; colors = colors }) x segments)
-lines_in Marked only colors x segments = None
-lines_in Count only colors x segments = None
+-- the lines of all segments in a format that prints each by itself
+abbrev pub lines_in : Format → Wanted → Colors → List ℕ → List Segment → Option (List ℕ)
+lines_in (Each layout) wanted colors x segments = Some (lines (record { layout = layout; wanted = wanted; colors = colors }) x segments)
+lines_in (Marked mark) wanted colors x segments = None
+lines_in (Lines width) wanted colors x segments = None
+lines_in Count wanted colors x segments = None

@@ -1,11 +1,12 @@
--- The segments of a text by a table, and what takes them one after the other.
+-- The segments of a text by a table and a filter, and what takes them one after the other.
 use Rattle.std.specs.Prelude.{ℕ, List, [], ◌∷◌, ◌++◌, Option}
 use Rattle.rbbi_model.specs.declared.unit.Unit.{Unit as TextUnit}
 use Rattle.rbbi_model.specs.Units.{offset_of}
 use Rattle.rbbi_model.specs.Places.{largest}
 use Rattle.rbbi_model.specs.Boundaries.{Boundary}
 use Rattle.rbbi_model.specs.Tables.{Table}
-use Rattle.rbbi_model.specs.Searches.{table_boundaries}
+use Rattle.rbbi_filter.specs.declared.filter.Filter.{Filter}
+use Rattle.rbbi_segment.specs.Filters.{boundaries_through}
 use Rattle.rbbi_segment.specs.declared.segments.Segment.{Segment}
 
 -- from a place of the text to a boundary, with their offsets in the unit and the largest status there
@@ -28,9 +29,9 @@ abbrev pub segments_between : TextUnit → List ℕ → List Boundary → List S
 segments_between unit x [] = []
 segments_between unit x (first ∷ others) = segments_from unit x first.at others
 
--- the segments of the text by the table, with offsets in the unit
-abbrev pub segments : TextUnit → Table → List ℕ → List Segment
-segments unit table x = segments_between unit x (table_boundaries table x)
+-- the segments of the text by the table that the filter leaves, with offsets in the unit
+abbrev pub segments : TextUnit → Option Filter → Table → List ℕ → List Segment
+segments unit filter table x = segments_between unit x (boundaries_through filter table x)
 
 -- A receiver took these segments of the text, one after the other and no others. `takes` says what taking one does to it and to what the
 -- sink has taken.

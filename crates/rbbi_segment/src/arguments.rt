@@ -1,14 +1,15 @@
 //! From the arguments to what they ask for.
 
+use crate::abbreviations::Language;
 use crate::colors::When;
 use crate::escapes::append_name;
 use crate::failure::{Failure, IS_REFUSED};
-use crate::only::Statuses;
-use crate::options::{Basis, Format, Property, Request, Task};
+use crate::only::{Statuses, Wanted};
+use crate::options::{Asked, Basis, Filtering, Format, Layout, Mark, Property, Request, Task};
 use clap::error::ErrorKind;
 use clap::{Arg, ArgAction, ArgMatches, Command, Error};
 use rbbi_segment_tables::Kind;
-use rbbi_text::{Unit, append};
+use rbbi_text::{Unit, append, decimal};
 use std::alloc::{AllocError, Global};
 
 const VERSION: &str = "1.0, with tables of Unicode 18.0";
@@ -23,24 +24,49 @@ use your own.";
 
 const AFTER_HELP: &str = "Examples:
   segment notes.txt                        the words of a file, and what is between them
-  segment --by word --only 100.. notes.txt the words alone
+  segment --only-words --count notes.txt   how many words there are
   segment --by sentence --format json -    the sentences of the standard input, as JSON
   segment --rules my.rules notes.txt       the segments by your rules
+  segment --rules my.rules --explain a.txt the rules that make each segment
   segment --check my.rules                 the first fault of your rules
+  segment --lint my.rules                  what changes nothing in your rules
 
 Exit status: 0 done; 1 the rule file has a fault; 2 invalid arguments, or a file that can't be
-read, used or written; 141 nobody reads the output any more.";
+read, used or written; 3 --lint found something; 141 nobody reads the output any more.";
 
 const BAD_PROPERTY: &[u8] = b"error: --prop takes NAME=FILE, as WB=WordBreakProperty.txt; NAME has \
     letters, digits, spaces, _ and -, with a letter or digit among them\n";
 
-const NEEDS_RULES: &[u8] = b"error: --prop and --ignore-dictionary go with --rules or --check\n";
+const NEEDS_RULES: &[u8] =
+    b"error: --prop and --ignore-dictionary go with --rules, --check or --lint\n";
+
+const BAD_LINE: &[u8] = b"error: --why takes the number of a line, from 1, and goes with --lint\n";
 
 const BAD_STATUS: &[u8] =
     b"error: --only takes a status or a range of them, as 100, 100.. or 100..200\n";
 
 const REVERSED_RANGE: &[u8] =
     b"error: --only takes the smaller status of a range first, as 100..200\n";
+
+const BAD_MARK: &[u8] = b"error: --mark takes a text that isn't empty and doesn't begin with a \
+    backslash\n";
+
+const NEEDS_MARKED: &[u8] = b"error: --mark goes with --format marked\n";
+
+const BAD_WIDTH: &[u8] = b"error: --width takes a number of columns, from 1\n";
+
+const NEEDS_LINES: &[u8] = b"error: --width goes with --format lines\n";
+
+const LINES_ARE_LINES: &[u8] = b"error: --format lines breaks by --by line, --rules or --table\n";
+
+const LINES_ARE_WHOLE: &[u8] =
+    b"error: --format lines prints the whole text, without --only and --only-words\n";
+
+const NO_RULES: &[u8] =
+    b"error: --explain needs --rules, since a table doesn't have the rules that it \
+    was made of; those of the built-in tables are in the repository's folder rules/\n";
+
+const BAD_PLACE: &[u8] = b"error: --explain takes a place, which is a number, as 100\n";
 
 /// What an option takes.
 #[derive(Clone, Copy)]
@@ -50,6 +76,8 @@ enum Takes {
     Value(&'static str),
     /// A value each time it is used.
     Values(&'static str),
+    /// One value, or none.
+    Optional(&'static str),
     /// One of these values.
     Choice(&'static str, &'static [&'static str]),
 }
@@ -65,34 +93,75 @@ struct Described {
     help: &'static str,
 }
 
-static OPTIONS: [Described; 11] = [
+static OPTIONS: [Described; 21] = [
     Described {
         name: "by",
         short: Some('b'),
         takes: Takes::Choice("KIND", &["grapheme", "word", "sentence", "line"]),
-        conflicts: &["rules", "table", "check"],
+        conflicts: &["rules", "table", "check", "lint"],
         help: "What the segments are, by the built-in tables [default: word]",
     },
     Described {
         name: "rules",
         short: None,
         takes: Takes::Value("RULES"),
-        conflicts: &["table", "check"],
+        conflicts: &["table", "check", "lint"],
         help: "Break by this rule file",
     },
     Described {
         name: "table",
         short: None,
         takes: Takes::Value("TABLE"),
-        conflicts: &["check"],
+        conflicts: &["check", "lint"],
         help: "Break by this table file",
     },
     Described {
         name: "check",
         short: None,
         takes: Takes::Value("RULES"),
-        conflicts: &["file", "format", "count", "units", "only"],
+        conflicts: &[
+            "file",
+            "format",
+            "count",
+            "units",
+            "only",
+            "only-words",
+            "null",
+            "mark",
+            "lossy",
+            "width",
+            "suppress",
+            "tailor",
+            "lint",
+        ],
         help: "Report the first fault of this rule file, and how to mend it",
+    },
+    Described {
+        name: "lint",
+        short: None,
+        takes: Takes::Value("RULES"),
+        conflicts: &[
+            "file",
+            "format",
+            "count",
+            "units",
+            "only",
+            "only-words",
+            "null",
+            "mark",
+            "lossy",
+            "width",
+            "suppress",
+            "tailor",
+        ],
+        help: "Print what changes nothing in this rule file if it is left out",
+    },
+    Described {
+        name: "why",
+        short: None,
+        takes: Takes::Value("LINE"),
+        conflicts: &["by", "rules", "table", "check"],
+        help: "With --lint, print a shortest text that shows why a line's rules are needed",
     },
     Described {
         name: "prop",
@@ -111,7 +180,7 @@ static OPTIONS: [Described; 11] = [
     Described {
         name: "format",
         short: Some('f'),
-        takes: Takes::Choice("FORMAT", &["text", "json", "marked"]),
+        takes: Takes::Choice("FORMAT", &["text", "json", "plain", "marked", "lines"]),
         conflicts: &["count"],
         help: "How segments are printed [default: text]",
     },
@@ -120,7 +189,28 @@ static OPTIONS: [Described; 11] = [
         short: Some('c'),
         takes: Takes::Nothing,
         conflicts: &[],
-        help: "Print how many segments have each status",
+        help: "Print how many segments have each status, and how many there are",
+    },
+    Described {
+        name: "null",
+        short: Some('0'),
+        takes: Takes::Nothing,
+        conflicts: &["format", "count"],
+        help: "Print each segment as it is, ended by NUL",
+    },
+    Described {
+        name: "mark",
+        short: None,
+        takes: Takes::Value("TEXT"),
+        conflicts: &[],
+        help: "What marks segments in --format marked [default: |]",
+    },
+    Described {
+        name: "width",
+        short: None,
+        takes: Takes::Value("COLUMNS"),
+        conflicts: &[],
+        help: "The columns of a line in --format lines [default: 72]",
     },
     Described {
         name: "units",
@@ -135,6 +225,43 @@ static OPTIONS: [Described; 11] = [
         takes: Takes::Value("STATUS"),
         conflicts: &[],
         help: "Only segments of this status, or of a range: 100, 100.., 100..200",
+    },
+    Described {
+        name: "only-words",
+        short: None,
+        takes: Takes::Nothing,
+        conflicts: &[],
+        help: "Only segments with a letter or a digit",
+    },
+    Described {
+        name: "suppress",
+        short: None,
+        takes: Takes::Value("FILE"),
+        conflicts: &["tailor"],
+        help: "No boundary after these abbreviations: those of a file, or en or de",
+    },
+    Described {
+        name: "tailor",
+        short: None,
+        takes: Takes::Value("FILE"),
+        conflicts: &[],
+        help: "Break characters as others, by the pairs of this file",
+    },
+    Described {
+        name: "lossy",
+        short: None,
+        takes: Takes::Nothing,
+        conflicts: &[],
+        help: "Replace what isn't UTF-8 by U+FFFD, and say how often",
+    },
+    Described {
+        name: "explain",
+        short: None,
+        takes: Takes::Optional("PLACE"),
+        conflicts: &[
+            "check", "lint", "format", "null", "count", "suppress", "tailor",
+        ],
+        help: "Say which rules of --rules make each segment, or what holds at PLACE",
     },
     Described {
         name: "color",
@@ -159,6 +286,11 @@ fn option_of<'a>(alloc: Global, described: &Described) -> Result<Arg<'a>, AllocE
     Ok(match described.takes {
         Takes::Nothing => arg.action(ArgAction::SetTrue),
         Takes::Value(name) => arg.value_name(name).action(ArgAction::Set),
+        Takes::Optional(name) => arg
+            .value_name(name)
+            .num_args(0..=1)
+            .default_missing_value("")
+            .action(ArgAction::Set),
         Takes::Values(name) => arg.value_name(name).action(ArgAction::Append),
         Takes::Choice(name, choices) => arg.value_name(name).value_parser(choices),
     })
@@ -236,21 +368,63 @@ fn bad_value(alloc: Global, message: &[u8]) -> Failure {
 fn kind_of(matches: &ArgMatches<'_>) -> Kind {
     match matches.get_str("by") {
         Some("grapheme") => Kind::Grapheme,
+        Some("word") => Kind::Word,
         Some("sentence") => Kind::Sentence,
         Some("line") => Kind::Line,
+        _ if matches.get_str("format") == Some("lines") => Kind::Line,
         _ => Kind::Word,
     }
 }
 
-fn format_of(matches: &ArgMatches<'_>) -> Format {
+/// The mark of the format with marks.
+fn mark_of<'a>(alloc: Global, matches: &ArgMatches<'a>) -> Result<Mark<'a>, Failure> {
+    let text = matches.get_str("mark").unwrap_or("|");
+    match text.chars().next() {
+        Some(first) if first != '\\' => Ok(Mark { text, first }),
+        _ => Err(bad_value(alloc, BAD_MARK)),
+    }
+}
+
+/// How many columns a line has at most in the format of lines. The options that choose what is
+/// printed, and by which built-in table, don't go with it.
+fn width_of(alloc: Global, matches: &ArgMatches<'_>) -> Result<u32, Failure> {
+    if !matches!(matches.get_str("by"), None | Some("line")) {
+        return Err(bad_value(alloc, LINES_ARE_LINES));
+    }
+    if matches.get_str("only").is_some() || matches.get_flag("only-words") {
+        return Err(bad_value(alloc, LINES_ARE_WHOLE));
+    }
+    match decimal(
+        matches.get_str("width").unwrap_or("72").as_bytes(),
+        u32::MAX,
+    ) {
+        Some(width) if width > 0 => Ok(width),
+        _ => Err(bad_value(alloc, BAD_WIDTH)),
+    }
+}
+
+/// The format, with its mark or its width, which go with no other.
+fn format_of<'a>(alloc: Global, matches: &ArgMatches<'a>) -> Result<Format<'a>, Failure> {
+    let name = matches.get_str("format");
+    if matches.get_str("mark").is_some() && name != Some("marked") {
+        return Err(bad_value(alloc, NEEDS_MARKED));
+    }
+    if matches.get_str("width").is_some() && name != Some("lines") {
+        return Err(bad_value(alloc, NEEDS_LINES));
+    }
     if matches.get_flag("count") {
-        return Format::Count;
+        return Ok(Format::Count);
     }
-    match matches.get_str("format") {
-        Some("json") => Format::Json,
-        Some("marked") => Format::Marked,
-        _ => Format::Text,
+    if matches.get_flag("null") {
+        return Ok(Format::Each(Layout::Null));
     }
+    Ok(match name {
+        Some("marked") => Format::Marked(mark_of(alloc, matches)?),
+        Some("lines") => Format::Lines(width_of(alloc, matches)?),
+        Some("json") => Format::Each(Layout::Json),
+        Some("plain") => Format::Each(Layout::Plain),
+        _ => Format::Each(Layout::Text),
+    })
 }
 
 fn unit_of(matches: &ArgMatches<'_>) -> Unit {
@@ -269,12 +443,59 @@ fn color_of(matches: &ArgMatches<'_>) -> When {
     }
 }
 
-/// What is to be done, and by which table.
-fn task_of<'a>(matches: &ArgMatches<'a>) -> (Task<'a>, Basis<'a>) {
+/// The name of the text. It may come right after `--explain`, since it is no number.
+fn file_of<'a>(matches: &ArgMatches<'a>) -> &'a str {
+    match (matches.get_str("file"), matches.get_str("explain")) {
+        (Some(file), _) => file,
+        (None, Some(file)) if !file.is_empty() && place_of(file).is_none() => file,
+        _ => "-",
+    }
+}
+
+/// The place that a text names.
+fn place_of(text: &str) -> Option<u32> {
+    decimal(text.as_bytes(), u32::MAX)
+}
+
+/// What is to be explained.
+fn explain_of(
+    alloc: Global,
+    matches: &ArgMatches<'_>,
+    basis: Basis<'_>,
+) -> Result<Option<Asked>, Failure> {
+    let Some(value) = matches.get_str("explain") else {
+        return Ok(None);
+    };
+    let Basis::Rules(_) = basis else {
+        return Err(bad_value(alloc, NO_RULES));
+    };
+    match place_of(value) {
+        Some(place) => Ok(Some(Asked::At(place))),
+        None if value.is_empty() || !matches.contains_id("file") => Ok(Some(Asked::All)),
+        None => Err(bad_value(alloc, BAD_PLACE)),
+    }
+}
+
+/// The line whose rules are asked for, which goes with `--lint`.
+fn line_of(alloc: Global, matches: &ArgMatches<'_>) -> Result<Option<u32>, Failure> {
+    let Some(text) = matches.get_str("why") else {
+        return Ok(None);
+    };
+    match decimal(text.as_bytes(), u32::MAX) {
+        Some(line) if line > 0 && matches.get_str("lint").is_some() => Ok(Some(line)),
+        _ => Err(bad_value(alloc, BAD_LINE)),
+    }
+}
+
+/// What is to be done, and by which table. `why` is the line whose rules are asked for.
+fn task_of<'a>(matches: &ArgMatches<'a>, why: Option<u32>) -> (Task<'a>, Basis<'a>) {
+    if let Some(rules) = matches.get_str("lint") {
+        return (Task::Lint(rules, why), Basis::Rules(rules));
+    }
     if let Some(rules) = matches.get_str("check") {
         return (Task::Check, Basis::Rules(rules));
     }
-    let task = Task::Segment(matches.get_str("file").unwrap_or("-"));
+    let task = Task::Segment(file_of(matches));
     if let Some(rules) = matches.get_str("rules") {
         return (task, Basis::Rules(rules));
     }
@@ -310,7 +531,7 @@ fn properties_of<'a>(
     Ok(properties)
 }
 
-fn only_of(alloc: Global, matches: &ArgMatches<'_>) -> Result<Statuses, Failure> {
+fn statuses_of(alloc: Global, matches: &ArgMatches<'_>) -> Result<Statuses, Failure> {
     let Some(text) = matches.get_str("only") else {
         return Ok(Statuses::ALL);
     };
@@ -318,6 +539,27 @@ fn only_of(alloc: Global, matches: &ArgMatches<'_>) -> Result<Statuses, Failure>
         Some(statuses) if statuses.least <= statuses.greatest => Ok(statuses),
         Some(_) => Err(bad_value(alloc, REVERSED_RANGE)),
         None => Err(bad_value(alloc, BAD_STATUS)),
+    }
+}
+
+fn wanted_of(alloc: Global, matches: &ArgMatches<'_>) -> Result<Wanted, Failure> {
+    Ok(Wanted {
+        statuses: statuses_of(alloc, matches)?,
+        only_words: matches.get_flag("only-words"),
+    })
+}
+
+/// The filter that is named. A file of abbreviations that has the name of a language is `./en`.
+fn filtering_of<'a>(matches: &ArgMatches<'a>) -> Filtering<'a> {
+    match matches.get_str("suppress") {
+        Some("en") => return Filtering::Language(Language::English),
+        Some("de") => return Filtering::Language(Language::German),
+        Some(name) => return Filtering::Abbreviations(name),
+        None => {}
+    }
+    match matches.get_str("tailor") {
+        Some(name) => Filtering::Pairs(name),
+        None => Filtering::Nothing,
     }
 }
 
@@ -330,7 +572,7 @@ pub(crate) fn request_of<'a>(
         Ok(matches) => matches,
         Err(error) => return Err(refused(alloc, words, &error)?),
     };
-    let (task, basis) = task_of(&matches);
+    let (task, basis) = task_of(&matches, line_of(alloc, &matches)?);
     let properties = properties_of(alloc, &matches)?;
     let ignore_dictionary = matches.get_flag("ignore-dictionary");
     if let Basis::BuiltIn(_) = basis
@@ -343,9 +585,12 @@ pub(crate) fn request_of<'a>(
         basis,
         properties,
         ignore_dictionary,
-        format: format_of(&matches),
+        filtering: filtering_of(&matches),
+        format: format_of(alloc, &matches)?,
         unit: unit_of(&matches),
-        only: only_of(alloc, &matches)?,
+        wanted: wanted_of(alloc, &matches)?,
+        is_lossy: matches.get_flag("lossy"),
+        explain: explain_of(alloc, &matches, basis)?,
         color: color_of(&matches),
     })
 }

@@ -19,7 +19,7 @@ use std::io::Read;
 use std::sync::ledger::Ledger;
 
 /// The rows of the property files.
-fn properties_of<F: Files, R: Read, L: Ledger>(
+pub(crate) fn properties_of<F: Files, R: Read, L: Ledger>(
     alloc: Global,
     given: &[Property<'_>],
     colors: Colors,

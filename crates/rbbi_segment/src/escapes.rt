@@ -14,6 +14,8 @@ pub(crate) enum Within {
     Quotes,
     /// In a string of JSON.
     Json,
+    /// In nothing, and each character as it is.
+    Bare,
 }
 
 /// Whether quotes and backslashes are escaped here.
@@ -24,6 +26,17 @@ fn is_quoted(within: Within) -> bool
         Within::Nothing => false,
         Within::Quotes => true,
         Within::Json => true,
+        Within::Bare => false,
+    }
+}
+
+/// Whether each character is itself here.
+fn is_bare(within: Within) -> bool
+    ensures { result ≡ spec.is_bare within }
+{
+    match within {
+        Within::Bare => true,
+        Within::Nothing | Within::Quotes | Within::Json => false,
     }
 }
 
@@ -78,7 +91,7 @@ fn append_hidden(c: char, within: Within, out: &mut Vec<u8>) -> Result<(), Alloc
             append(b"\\u", out)?;
             append_digits(c as u32, out)
         }
-        Within::Nothing | Within::Quotes => {
+        Within::Nothing | Within::Quotes | Within::Bare => {
             append(b"\\u{", out)?;
             append_digits(c as u32, out)?;
             append(b"}", out)
@@ -90,6 +103,9 @@ fn append_hidden(c: char, within: Within, out: &mut Vec<u8>) -> Result<(), Alloc
 pub(crate) fn append_character(c: char, within: Within, out: &mut Vec<u8>) -> Result<(), AllocError>
     ensures { OnOk result (out.new.items ≡ out.old.items ++ spec.shown within c) }
 {
+    if is_bare(within) {
+        return append_plain(c, out);
+    }
     if c == '\n' {
         return append(b"\\n", out);
     }

@@ -10,6 +10,9 @@ pub(crate) const HAS_FAULT: u8 = 1;
 /// The exit status where the words are wrong, or a file can't be read, used or written.
 pub(crate) const IS_REFUSED: u8 = 2;
 
+/// The exit status where something is found in the rule file that changes nothing.
+pub(crate) const HAS_FINDINGS: u8 = 3;
+
 /// The exit status where nobody reads the output any more: that of a program that `SIGPIPE` ends.
 pub(crate) const IS_CLOSED: u8 = 141;
 

@@ -40,7 +40,7 @@ pub(crate) const OPEN_SET: FaultText = FaultText {
 /// What helps with a table file that is given as a rule file.
 pub(crate) const TABLE_FILE: &str = "This is a table file, which goes to --table.";
 
-static TEXTS: [FaultText; 42] = [
+static TEXTS: [FaultText; 43] = [
     FaultText {
         label: "TooLong",
         cause: "the file is too long",
@@ -259,6 +259,13 @@ static TEXTS: [FaultText; 42] = [
         label: "BadSafe",
         cause: "the safe pairs of the table aren't valid",
         help: "Make it again with rbbi compile RULES TABLE.",
+    },
+    FaultText {
+        label: "BadLine",
+        cause: "this line can't be used",
+        help: "A line of --suppress is an abbreviation of at most 32 characters, with no space \
+               before or after it; one of --tailor is two characters, as 2019 ; 0027, the first \
+               in no earlier line. Lines that begin with # are skipped.",
     },
     FaultText {
         label: "Unreadable",

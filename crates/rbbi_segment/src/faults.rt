@@ -94,8 +94,21 @@ fn append_space(line: &str, from: usize, to: usize, out: &mut Vec<u8>) -> Result
     Ok(())
 }
 
+/// Appends the name of a rule file and a place in it.
+pub(crate) fn append_position(
+    name: &str,
+    position: &Position<'_>,
+    out: &mut Vec<u8>,
+) -> Result<(), AllocError> {
+    append_name(name, out)?;
+    append(b":", out)?;
+    append_number(position.row, out)?;
+    append(b":", out)?;
+    append_number(position.column, out)
+}
+
 /// Appends the line in which a place stands, and a caret below the place.
-fn append_shown(
+pub(crate) fn append_shown(
     position: &Position<'_>,
     colors: Colors,
     out: &mut Vec<u8>,
@@ -117,11 +130,7 @@ fn append_at(
     out: &mut Vec<u8>,
 ) -> Result<(), AllocError> {
     let position = position_of(source.text, place);
-    append_name(source.name, out)?;
-    append(b":", out)?;
-    append_number(position.row, out)?;
-    append(b":", out)?;
-    append_number(position.column, out)?;
+    append_position(source.name, &position, out)?;
     append_cause(label, cause, source.colors, out)?;
     append_shown(&position, source.colors, out)
 }

@@ -1,8 +1,10 @@
-//! The statuses that are asked for.
-ghost use Rattle.std.specs.Prelude.{◌≡◌};
-ghost use Rattle.rbbi_segment.specs.Lines.{has};
+//! Which segments are asked for.
+ghost use Rattle.std.specs.Prelude.{◌≡◌, ◌<◌, ◌≤◌, length};
+ghost use Rattle.rbbi_segment.specs.Wanted as spec;
 
-use rbbi_text::decimal;
+use crate::segments::Segment;
+use rbbi_text::{Chars, PlainText, Steps, decimal};
+use std::sync::ledger::Ledger;
 
 /// All numbers from one to another, with both of them.
 #[derive(Clone, Copy)]
@@ -47,8 +49,47 @@ impl Statuses {
 
     /// Whether the number is one of them.
     pub(crate) fn has(&self, status: u32) -> bool
-        ensures { result ≡ has self.now status }
+        ensures { result ≡ spec.has self.now status }
     {
         self.least <= status && status <= self.greatest
     }
+}
+
+/// Which segments are asked for.
+#[derive(Clone, Copy)]
+pub(crate) struct Wanted {
+    pub(crate) statuses: Statuses,
+    /// Whether words alone are.
+    pub(crate) only_words: bool,
+}
+
+impl Wanted {
+    /// Whether the segment of the text is asked for.
+    pub(crate) fn has<L: Ledger>(
+        &self,
+        text: &PlainText,
+        segment: Segment,
+        steps: &mut Steps<L>,
+    ) -> bool
+        requires some { segment.start < segment.end }
+        requires within { segment.end ≤ length text.now }
+        ensures { result ≡ spec.wants self.now text.now segment }
+    {
+        self.statuses.has(segment.status)
+            && (!self.only_words || is_word(text, segment.start, segment.end, steps))
+    }
+}
+
+/// Whether a letter or a digit stands in the text from one place to another.
+fn is_word<L: Ledger>(text: &PlainText, start: u32, end: u32, steps: &mut Steps<L>) -> bool
+    requires some { start < end }
+    requires within { end ≤ length text.now }
+    ensures { result ≡ spec.is_word text.now start end }
+{
+    for i in start..end {
+        if text.char_at(i, steps).is_alphanumeric() {
+            return true;
+        }
+    }
+    false
 }

@@ -1,7 +1,8 @@
 //! What the arguments ask for.
 
+use crate::abbreviations::Language;
 use crate::colors::When;
-use crate::only::Statuses;
+use crate::only::Wanted;
 use rbbi_segment_tables::Kind;
 use rbbi_text::Unit;
 
@@ -16,17 +17,38 @@ pub(crate) enum Basis<'a> {
     Table(&'a str),
 }
 
+/// How a segment is printed by itself.
+#[derive(Clone, Copy)]
+pub(crate) enum Layout {
+    /// A line: start, end, status, and the segment in quotes.
+    Text,
+    /// A JSON object, in a line.
+    Json,
+    /// The segment as it is, in a line.
+    Plain,
+    /// The segment as it is, ended by NUL.
+    Null,
+}
+
 /// How segments are printed.
 #[derive(Clone, Copy)]
-pub(crate) enum Format {
-    /// A line for each: start, end, status, and the segment in quotes.
-    Text,
-    /// A JSON object for each, one per line.
-    Json,
-    /// The text, with a mark where a segment begins or ends.
-    Marked,
-    /// How many there are of each status.
+pub(crate) enum Format<'a> {
+    /// Each by itself.
+    Each(Layout),
+    /// The text, with this mark where a segment begins or ends.
+    Marked(Mark<'a>),
+    /// The text in lines of at most so many columns.
+    Lines(u32),
+    /// How many there are of each status, and of all.
     Count,
+}
+
+/// What stands in a text where a segment begins or ends.
+#[derive(Clone, Copy)]
+pub(crate) struct Mark<'a> {
+    pub(crate) text: &'a str,
+    /// Its first character.
+    pub(crate) first: char,
 }
 
 /// What is to be done.
@@ -34,8 +56,23 @@ pub(crate) enum Format {
 pub(crate) enum Task<'a> {
     /// Report the first fault of the rule file.
     Check,
+    /// Print what changes nothing in the rule file of this name, or why the rules in a line, from
+    /// 1, are needed.
+    Lint(&'a str, Option<u32>),
     /// Print the segments of the text of this name, or of standard input if it is `-`.
     Segment(&'a str),
+}
+
+/// What changes which boundaries are reported.
+#[derive(Clone, Copy)]
+pub(crate) enum Filtering<'a> {
+    Nothing,
+    /// The abbreviations of this language that are built in suppress them.
+    Language(Language),
+    /// The abbreviations of the file of this name suppress them.
+    Abbreviations(&'a str),
+    /// The pairs of the file of this name turn characters.
+    Pairs(&'a str),
 }
 
 /// A property file and the name under which rules ask for it.
@@ -45,6 +82,15 @@ pub(crate) struct Property<'a> {
     pub(crate) file: &'a str,
 }
 
+/// What is explained.
+#[derive(Clone, Copy)]
+pub(crate) enum Asked {
+    /// Each segment.
+    All,
+    /// What is at a place, in the unit.
+    At(u32),
+}
+
 /// What the arguments ask for.
 #[derive(Drop)]
 pub(crate) struct Request<'a> {
@@ -52,8 +98,12 @@ pub(crate) struct Request<'a> {
     pub(crate) basis: Basis<'a>,
     pub(crate) properties: Vec<Property<'a>>,
     pub(crate) ignore_dictionary: bool,
-    pub(crate) format: Format,
+    pub(crate) filtering: Filtering<'a>,
+    pub(crate) format: Format<'a>,
     pub(crate) unit: Unit,
-    pub(crate) only: Statuses,
+    pub(crate) wanted: Wanted,
+    /// Whether bytes of the text that aren't UTF-8 are replaced.
+    pub(crate) is_lossy: bool,
+    pub(crate) explain: Option<Asked>,
     pub(crate) color: When,
 }

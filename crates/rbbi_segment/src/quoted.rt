@@ -1,11 +1,12 @@
-//! A line for each segment: its numbers, and the segment in quotes.
+//! Each segment by itself: a line with its numbers and itself in quotes, or itself as it is.
 ghost use Rattle.std.specs.Prelude.{◌≡◌, ◌++◌, ◌<◌, ◌≤◌, length, OnOk, slice_range};
 ghost use Rattle.rbbi_io.specs.Sinks.{IsBuffered, Takes};
 ghost use Rattle.rbbi_segment.specs.Lines as spec;
 
 use crate::colors::{Color, Colors};
 use crate::escapes::{Within, append_character};
-use crate::only::Statuses;
+use crate::only::Wanted;
+use crate::options::Layout;
 use crate::segments::{Receive, Segment};
 use rbbi_io::{Sink, WriteErr, put_all, put_when_full};
 use rbbi_text::{Chars, PlainText, Steps, append, append_number};
@@ -15,13 +16,12 @@ use std::sync::ledger::Ledger;
 /// How lines are written.
 #[derive(Clone, Copy)]
 pub(crate) struct Style {
-    /// Whether a line is an object of JSON.
-    pub(crate) is_json: bool,
-    pub(crate) only: Statuses,
+    pub(crate) layout: Layout,
+    pub(crate) wanted: Wanted,
     pub(crate) colors: Colors,
 }
 
-/// Puts a line for each segment of the statuses that are asked for.
+/// Puts a line for each segment that is asked for.
 #[derive(Drop)]
 pub(crate) struct Quoted {
     pub(crate) style: Style,
@@ -50,47 +50,57 @@ fn append_json_head(segment: Segment, out: &mut Vec<u8>) -> Result<(), AllocErro
     append_number(segment.end_offset, out)?;
     append(b",\"status\":", out)?;
     append_number(segment.status, out)?;
-    append(b",\"text\":", out)
+    append(b",\"text\":\"", out)
 }
 
-/// Appends what stands before the quotes.
-fn append_head(style: Style, segment: Segment, out: &mut Vec<u8>) -> Result<(), AllocError>
-    ensures { OnOk result (out.new.items ≡ out.old.items ++ spec.head style segment) }
+/// Appends the line of a segment up to its text, in a format with colours.
+fn append_text_head(colors: Colors, segment: Segment, out: &mut Vec<u8>) -> Result<(), AllocError>
+    ensures { OnOk result (out.new.items ≡ out.old.items ++ spec.text_head colors segment) }
 {
-    if style.is_json {
-        return append_json_head(segment, out);
-    }
-    style.colors.begin(Color::Faint, out)?;
+    colors.begin(Color::Faint, out)?;
     append_plain_head(segment, out)?;
-    style.colors.end(out)?;
-    append(b" ", out)
+    colors.end(out)?;
+    append(b" \"", out)
 }
 
-/// Appends what follows the quotes.
-fn append_tail(style: Style, out: &mut Vec<u8>) -> Result<(), AllocError>
-    ensures { OnOk result (out.new.items ≡ out.old.items ++ spec.tail style) }
+/// Appends what stands before the characters of a segment.
+fn append_head(style: Style, segment: Segment, out: &mut Vec<u8>) -> Result<(), AllocError>
+    ensures { OnOk result (out.new.items ≡ out.old.items
+        ++ spec.head style.layout style.colors segment) }
 {
-    if style.is_json {
-        append(b"}\n", out)
-    } else {
-        append(b"\n", out)
+    match style.layout {
+        Layout::Text => append_text_head(style.colors, segment, out),
+        Layout::Json => append_json_head(segment, out),
+        Layout::Plain | Layout::Null => Ok(()),
     }
 }
 
-/// How characters stand in the quotes.
-fn within(style: Style) -> Within
-    ensures { result ≡ spec.within style }
+/// Appends what follows the characters of a segment.
+fn append_tail(layout: Layout, out: &mut Vec<u8>) -> Result<(), AllocError>
+    ensures { OnOk result (out.new.items ≡ out.old.items ++ spec.tail layout) }
 {
-    if style.is_json {
-        Within::Json
-    } else {
-        Within::Quotes
+    match layout {
+        Layout::Text => append(b"\"\n", out),
+        Layout::Json => append(b"\"}\n", out),
+        Layout::Plain => append(b"\n", out),
+        Layout::Null => append(b"\0", out),
     }
 }
 
-/// Appends the characters of a segment in quotes, and puts what is too much to wait.
-fn put_quoted<K: Sink, L: Ledger>(
-    style: Style,
+/// How characters stand in a line.
+fn within(layout: Layout) -> Within
+    ensures { result ≡ spec.within layout }
+{
+    match layout {
+        Layout::Text => Within::Quotes,
+        Layout::Json => Within::Json,
+        Layout::Plain | Layout::Null => Within::Bare,
+    }
+}
+
+/// Appends the characters of a segment, and puts what is too much to wait.
+pub(crate) fn put_characters<K: Sink, L: Ledger>(
+    layout: Layout,
     text: &PlainText,
     segment: Segment,
     out: &mut K,
@@ -100,20 +110,19 @@ fn put_quoted<K: Sink, L: Ledger>(
     requires some { segment.start < segment.end }
     requires within { segment.end ≤ length text.now }
     ensures { OnOk result (IsBuffered (K.taken out.old) (K.taken out.new) (made.old.items
-        ++ spec.quoted style (slice_range text.now segment.start segment.end)) made.new.items) }
+        ++ spec.shown_all (spec.within layout)
+        (slice_range text.now segment.start segment.end)) made.new.items) }
 {
-    let within = within(style);
-    append(b"\"", made)?;
+    let within = within(layout);
     for i in segment.start..segment.end {
         append_character(text.char_at(i, steps), within, made)?;
         put_when_full(out, made)?;
     }
-    append(b"\"", made)?;
     Ok(())
 }
 
 /// Appends the line of a segment, and puts what is too much to wait.
-fn put_line<K: Sink, L: Ledger>(
+pub(crate) fn put_line<K: Sink, L: Ledger>(
     style: Style,
     text: &PlainText,
     segment: Segment,
@@ -127,8 +136,8 @@ fn put_line<K: Sink, L: Ledger>(
         ++ spec.line style text.now segment) made.new.items) }
 {
     append_head(style, segment, made)?;
-    put_quoted(style, text, segment, out, made, steps)?;
-    append_tail(style, made)?;
+    put_characters(style.layout, text, segment, out, made, steps)?;
+    append_tail(style.layout, made)?;
     put_when_full(out, made)
 }
 
@@ -147,7 +156,7 @@ impl Receive for Quoted {
         out: &mut K,
         steps: &mut Steps<L>,
     ) -> Result<(), WriteErr> {
-        if !self.style.only.has(segment.status) {
+        if !self.style.wanted.has(text, segment, steps) {
             return Ok(());
         }
         put_line(self.style, text, segment, out, &mut self.made, steps)

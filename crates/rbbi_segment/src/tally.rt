@@ -1,6 +1,6 @@
 //! How many segments there are of each status.
 
-use crate::only::Statuses;
+use crate::only::Wanted;
 use crate::segments::{Receive, Segment};
 use rbbi_io::{Sink, WriteErr, put_all};
 use rbbi_text::{PlainText, Steps, append, append_number};
@@ -8,18 +8,17 @@ use std::alloc::AllocError;
 use std::collections::BTreeMap;
 use std::sync::ledger::Ledger;
 
-/// Counts the segments of the statuses that are asked for, and puts a line for each status: the
-/// status, and how many segments have it.
+/// Counts the segments that are asked for, and puts a line for each status, with how many segments
+/// have it, and a last one with how many there are of all.
 #[derive(Drop)]
 pub(crate) struct Tally {
-    pub(crate) only: Statuses,
+    pub(crate) wanted: Wanted,
     pub(crate) counts: BTreeMap<u32, u32>,
     pub(crate) made: Vec<u8>,
 }
 
-/// Appends the line of a status.
-fn append_count(status: u32, count: u32, out: &mut Vec<u8>) -> Result<(), AllocError> {
-    append_number(status, out)?;
+/// Appends the end of a line: how many segments there are.
+fn append_count(count: u32, out: &mut Vec<u8>) -> Result<(), AllocError> {
     append(b" ", out)?;
     append_number(count, out)?;
     append(b"\n", out)
@@ -37,21 +36,26 @@ impl Tally {
 impl Receive for Tally {
     fn take<K: Sink, L: Ledger>(
         &mut self,
-        _text: &PlainText,
+        text: &PlainText,
         segment: Segment,
         _out: &mut K,
-        _steps: &mut Steps<L>,
+        steps: &mut Steps<L>,
     ) -> Result<(), WriteErr> {
-        if self.only.has(segment.status) {
+        if self.wanted.has(text, segment, steps) {
             self.count(segment.status)?;
         }
         Ok(())
     }
 
     fn end<K: Sink>(&mut self, out: &mut K) -> Result<(), WriteErr> {
+        let mut total: u32 = 0;
         for (status, count) in self.counts.iter() {
-            append_count(*status, *count, &mut self.made)?;
+            append_number(*status, &mut self.made)?;
+            append_count(*count, &mut self.made)?;
+            total = total.saturating_add(*count);
         }
+        append(b"total", &mut self.made)?;
+        append_count(total, &mut self.made)?;
         put_all(out, &self.made)
     }
 }

@@ -11,6 +11,9 @@ use Rattle.rbbi_segment.proofs.program.perform.Goals as goal
 pub returns-in-Check : goal.returns-in-Check
 returns-in-Check g c = rw c.in-Check.is tt
 
+pub returns-in-Lint : goal.returns-in-Lint
+returns-in-Lint g c = rw c.in-Lint.is tt
+
 pub returns : goal.returns
 returns g c =
     let request : Request = c.args.request.now in
@@ -21,5 +24,6 @@ returns g c =
     λ colors task. OnOk c.segment_text.result (TakesLinesOf request colors contents before now task request.basis) in
     subst (λ colors. Puts colors request.task) c.new-colors.ensures
     (subst (Puts c.new-colors.result) (sym c.in-Segment.is)
-    (of_basis g.F.Files.contents c.args.files.now c.table_of.new.files c.in_ok-table.table request c.new-colors.result before now
-    c.in-Segment.name request.basis c.segment_text.result c.in_ok-table.ensures c.segment_text.ensures))
+    (of_basis g.F.Files.contents c.args.files.now c.table_of.new.files c.filter_of.new.files c.in_ok-table.table c.in_ok-filter.filter request
+    c.new-colors.result before now c.in-Segment.name request.basis c.segment_text.result c.in_ok-table.ensures c.in_ok-filter.ensures.filter
+    c.in_ok-filter.ensures.same c.segment_text.ensures))

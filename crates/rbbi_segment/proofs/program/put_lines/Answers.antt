@@ -7,5 +7,5 @@ pub returns : goal.returns
 returns g c =
     on_ok c.hand_over.result
     (λ taken. all_put c.args.text.now _ (g.K.Sink.taken c.args.out.now) (g.K.Sink.taken c.hand_over.new.out)
-    (segments c.args.unit c.args.table.now c.args.text.now) c.new-made.ensures.items taken)
+    (segments c.args.unit c.args.filter.now c.args.table.now c.args.text.now) c.new-made.ensures.items taken)
     c.hand_over.ensures

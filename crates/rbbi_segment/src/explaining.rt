@@ -1,0 +1,456 @@
+//! Which rules make the segments of a text, and why there is a boundary at a place, or none.
+ghost use Rattle.std.specs.Prelude.{◌<◌, ◌≤◌, length};
+ghost use Rattle.rbbi_text.specs.Bytes.{most_bytes};
+
+use crate::basis::properties_of;
+use crate::colors::{Colors, Surroundings};
+use crate::escapes::append_name;
+use crate::failure::{Failure, IS_REFUSED};
+use crate::options::{Asked, Basis, Layout, Request, Task};
+use crate::quoted::{Style, put_characters, put_line};
+use crate::reading::{RULES_LIMIT, read, read_text};
+use crate::rules::table_of_rules;
+use crate::segments::{Receive, Segment, hand_over};
+use rbbi_builtin::add_asked_for;
+use rbbi_compile::{read_rules, rule_text};
+use rbbi_explain::{Explainer, Explanation, Origin, Part, Reason, RuleText, rule_texts};
+use rbbi_io::{Files, Sink, WriteErr, put_all, put_when_full};
+use rbbi_props::PropTable;
+use rbbi_table::Table;
+use rbbi_text::{Chars, PlainText, Steps, Unit, append, append_number};
+use std::alloc::{AllocError, Global};
+use std::io::Read;
+use std::sync::ledger::Ledger;
+
+/// The rules of a file.
+#[derive(Drop)]
+struct Known<'a> {
+    /// The name of the file.
+    name: &'a str,
+    explainer: Explainer,
+    texts: Vec<RuleText>,
+}
+
+/// Explains the segments that are asked for.
+#[derive(Drop)]
+struct Explaining<'a> {
+    alloc: Global,
+    known: Known<'a>,
+    asked: Asked,
+    style: Style,
+    unit: Unit,
+    /// Whether the segment was met that ends at the place that is asked for, or has it inside.
+    is_met: bool,
+    /// The bytes that wait.
+    made: Vec<u8>,
+}
+
+/// What is known of the rules of a file that has a table.
+fn known_of<'a>(
+    alloc: Global,
+    name: &'a str,
+    bytes: &[u8],
+    mut properties: PropTable,
+    ignore_dictionary: bool,
+) -> Result<Known<'a>, Failure>
+    requires { length bytes.now ≤ most_bytes }
+{
+    // The file was compiled, so it has no fault, and no more than 1,000 categories.
+    let Ok(text) = rule_text(bytes) else {
+        return Err(Failure::Memory);
+    };
+    add_asked_for(alloc, text, &mut properties)?;
+    let Ok(rules) = read_rules(alloc, text, &properties, ignore_dictionary) else {
+        return Err(Failure::Memory);
+    };
+    let Ok(explainer) = Explainer::new(alloc, &rules) else {
+        return Err(Failure::Memory);
+    };
+    let texts = rule_texts(alloc, text, &rules)?;
+    Ok(Known {
+        name,
+        explainer,
+        texts,
+    })
+}
+
+/// The table of a rule file, and what is known of its rules.
+fn read_known<'a, F: Files, R: Read, L: Ledger>(
+    alloc: Global,
+    name: &'a str,
+    request: &Request<'_>,
+    faults: Colors,
+    files: &mut F,
+    input: &mut R,
+    steps: &mut Steps<L>,
+) -> Result<(Table, Known<'a>), Failure> {
+    let given = request.properties.as_slice();
+    let ignored = request.ignore_dictionary;
+    let mut properties = properties_of(alloc, given, faults, files, input, steps)?;
+    let raw = read(alloc, name, RULES_LIMIT, faults, files, input)?;
+    let bytes = raw.bytes(steps);
+    let table = table_of_rules(alloc, name, bytes, &mut properties, ignored, faults)?;
+    let known = known_of(alloc, name, bytes, properties, ignored)?;
+    Ok((table, known))
+}
+
+/// How much of the unit the characters between two places take; 0 if they aren't in order within
+/// the text.
+fn units(text: &PlainText, unit: Unit, from: u32, to: u32) -> u32 {
+    if from <= to && to <= text.len() {
+        text.units_between(unit, from, to)
+    } else {
+        0
+    }
+}
+
+/// Whether a place of the unit lies between two characters of a segment.
+fn is_between_characters(text: &PlainText, unit: Unit, segment: Segment, place: u32) -> bool {
+    let mut offset = segment.start_offset;
+    for at in segment.start..segment.end {
+        if offset >= place {
+            break;
+        }
+        offset = offset.saturating_add(units(text, unit, at, at + 1));
+    }
+    offset == place
+}
+
+/// The status that the origins come to.
+fn status_of(origins: &[Origin]) -> u32 {
+    match origins.first() {
+        Some(origin) => origin.status,
+        None => 0,
+    }
+}
+
+impl Known<'_> {
+    /// Appends the file and the line of a rule.
+    fn append_place(&self, rule: u32, made: &mut Vec<u8>) -> Result<(), AllocError> {
+        append_name(self.name, made)?;
+        if let Some(found) = self.texts.get(rule as usize) {
+            append(b":", made)?;
+            append_number(found.line, made)?;
+        }
+        Ok(())
+    }
+
+    /// Appends the text of a rule.
+    fn append_text(&self, rule: u32, made: &mut Vec<u8>) -> Result<(), AllocError> {
+        append(b": ", made)?;
+        if let Some(found) = self.texts.get(rule as usize) {
+            append_name(found.text.as_str(), made)?;
+        }
+        Ok(())
+    }
+}
+
+impl Explaining<'_> {
+    /// Whether something is to be said of a segment.
+    fn is_asked_for<L: Ledger>(
+        &self,
+        text: &PlainText,
+        segment: Segment,
+        steps: &mut Steps<L>,
+    ) -> bool
+        requires some { segment.start < segment.end }
+        requires within { segment.end ≤ length text.now }
+    {
+        match self.asked {
+            Asked::All => self.style.wanted.has(text, segment, steps),
+            Asked::At(place) => segment.start_offset < place && place <= segment.end_offset,
+        }
+    }
+
+    /// Appends why there is a boundary at the place that is asked for, or that there is none.
+    fn append_answer(
+        &mut self,
+        place: u32,
+        text: &PlainText,
+        segment: Segment,
+        reason: Reason,
+    ) -> Result<(), AllocError> {
+        let made = &mut self.made;
+        append_number(place, made)?;
+        if place != segment.end_offset {
+            append(b" is no boundary: it is inside of the segment from ", made)?;
+            append_number(segment.start_offset, made)?;
+            append(b" to ", made)?;
+            append_number(segment.end_offset, made)?;
+            if !is_between_characters(text, self.unit, segment, place) {
+                append(b", and of a character", made)?;
+            }
+            return append(b"\n", made);
+        }
+        append(b" is a boundary: ", made)?;
+        match reason {
+            Reason::LongestMatch => append(b"the longest match from ", made)?,
+            Reason::Cut { .. } => append(b"a look-ahead rule cuts the match from ", made)?,
+            Reason::OneCharacter => append(b"no rule matches from ", made)?,
+        }
+        append_number(segment.start_offset, made)?;
+        match reason {
+            Reason::LongestMatch => append(b" ends there\n", made),
+            Reason::Cut { .. } => append(b" there\n", made),
+            Reason::OneCharacter => append(b" on\n", made),
+        }
+    }
+
+    /// Whether a part is to be shown: with a place, only those that have it inside, unless it is
+    /// the end of the segment.
+    fn shows(&self, segment: Segment, part: Segment) -> bool {
+        match self.asked {
+            Asked::At(place) if place != segment.end_offset => {
+                part.start_offset < place && place < part.end_offset
+            }
+            _ => true,
+        }
+    }
+
+    /// Prints the line of a part, whose characters a rule took.
+    fn put_part<K: Sink, L: Ledger>(
+        &mut self,
+        text: &PlainText,
+        part: Segment,
+        rule: u32,
+        out: &mut K,
+        steps: &mut Steps<L>,
+    ) -> Result<(), WriteErr>
+        requires some { part.start < part.end }
+        requires within { part.end ≤ length text.now }
+    {
+        append(b"  ", &mut self.made)?;
+        append_number(part.start_offset, &mut self.made)?;
+        append(b" ", &mut self.made)?;
+        append_number(part.end_offset, &mut self.made)?;
+        append(b" \"", &mut self.made)?;
+        put_characters(self.style.layout, text, part, out, &mut self.made, steps)?;
+        append(b"\" by ", &mut self.made)?;
+        self.known.append_place(rule, &mut self.made)?;
+        self.known.append_text(rule, &mut self.made)?;
+        append(b"\n", &mut self.made)?;
+        put_when_full(out, &mut self.made)
+    }
+
+    /// Prints the lines of the parts of a segment.
+    fn put_parts<K: Sink, L: Ledger>(
+        &mut self,
+        text: &PlainText,
+        segment: Segment,
+        parts: &[Part],
+        out: &mut K,
+        steps: &mut Steps<L>,
+    ) -> Result<(), WriteErr> {
+        let mut at = segment.start;
+        let mut offset = segment.start_offset;
+        for part in parts {
+            let Part { rule, start, end } = *part;
+            if start >= end || end > text.len() {
+                continue;
+            }
+            offset = offset.saturating_add(units(text, self.unit, at, start));
+            at = start;
+            let shown = Segment {
+                start,
+                end,
+                start_offset: offset,
+                end_offset: offset.saturating_add(units(text, self.unit, start, end)),
+                status: segment.status,
+            };
+            if self.shows(segment, shown) {
+                self.put_part(text, shown, rule, out, steps)?;
+            }
+        }
+        Ok(())
+    }
+
+    /// Appends why the segment ends where it does, unless it is the longest match.
+    fn append_reason(
+        &mut self,
+        text: &PlainText,
+        segment: Segment,
+        reason: Reason,
+    ) -> Result<(), AllocError> {
+        let made = &mut self.made;
+        match reason {
+            Reason::LongestMatch => Ok(()),
+            Reason::OneCharacter => append(b"  no rule matches: one character is taken\n", made),
+            Reason::Cut { rule, complete } => {
+                let rest = units(text, self.unit, segment.end, complete);
+                append(b"  cut at ", made)?;
+                append_number(segment.end_offset, made)?;
+                append(b", the last end of the front of ", made)?;
+                self.known.append_place(rule, made)?;
+                append(b" before it is complete at ", made)?;
+                append_number(segment.end_offset.saturating_add(rest), made)?;
+                append(b"\n", made)
+            }
+        }
+    }
+
+    /// Appends the line of a rule from which a status comes. A rule that took no part is shown.
+    fn append_origin(
+        &mut self,
+        text: &PlainText,
+        segment: Segment,
+        origin: Origin,
+        last: Option<u32>,
+    ) -> Result<(), AllocError> {
+        let made = &mut self.made;
+        let before = units(text, self.unit, segment.start, origin.start);
+        append(b"  status ", made)?;
+        append_number(origin.status, made)?;
+        append(b" by ", made)?;
+        self.known.append_place(origin.rule, made)?;
+        append(b", from ", made)?;
+        append_number(segment.start_offset.saturating_add(before), made)?;
+        if last != Some(origin.rule) {
+            self.known.append_text(origin.rule, made)?;
+        }
+        append(b"\n", made)
+    }
+
+    /// Appends from where the statuses come.
+    fn append_origins(
+        &mut self,
+        text: &PlainText,
+        segment: Segment,
+        explanation: &Explanation,
+    ) -> Result<(), AllocError> {
+        let last = explanation.parts.last().map(|part| part.rule);
+        for origin in &explanation.origins {
+            self.append_origin(text, segment, *origin, last)?;
+        }
+        if last.is_some() && explanation.origins.is_empty() {
+            append(
+                b"  status 0: no rule that ends there has a number\n",
+                &mut self.made,
+            )?;
+        }
+        let status = status_of(explanation.origins.as_slice());
+        if explanation.end == segment.end && status == segment.status {
+            return Ok(());
+        }
+        append(
+            b"  internal disagreement: by the rules it ends after character ",
+            &mut self.made,
+        )?;
+        append_number(explanation.end, &mut self.made)?;
+        append(b" with the status ", &mut self.made)?;
+        append_number(status, &mut self.made)?;
+        append(b"\n", &mut self.made)
+    }
+}
+
+impl Receive for Explaining<'_> {
+    fn take<K: Sink, L: Ledger>(
+        &mut self,
+        text: &PlainText,
+        segment: Segment,
+        out: &mut K,
+        steps: &mut Steps<L>,
+    ) -> Result<(), WriteErr> {
+        if !self.is_asked_for(text, segment, steps) {
+            return Ok(());
+        }
+        self.is_met = true;
+        let explainer = &mut self.known.explainer;
+        let found = explainer.explain(self.alloc, text, segment.start, segment.end, steps)?;
+        let mut is_whole = true;
+        if let Asked::At(place) = self.asked {
+            self.append_answer(place, text, segment, found.reason)?;
+            is_whole = place == segment.end_offset;
+        }
+        put_line(self.style, text, segment, out, &mut self.made, steps)?;
+        self.put_parts(text, segment, found.parts.as_slice(), out, steps)?;
+        if is_whole {
+            self.append_reason(text, segment, found.reason)?;
+            self.append_origins(text, segment, &found)?;
+        }
+        put_when_full(out, &mut self.made)
+    }
+
+    fn end<K: Sink>(&mut self, out: &mut K) -> Result<(), WriteErr> {
+        put_all(out, &self.made)
+    }
+}
+
+/// The failure that the text ends before a place.
+fn past_the_end(alloc: Global, place: u32, end: u32) -> Failure {
+    match format!(in alloc; "error: --explain {place}: the text ends at {end}\n") {
+        Ok(text) => match text.as_bytes().to_vec(alloc) {
+            Ok(bytes) => Failure::Told(IS_REFUSED, bytes),
+            Err(_) => Failure::Memory,
+        },
+        Err(_) => Failure::Memory,
+    }
+}
+
+/// Says which rules of the rule file make each segment of the text that a request names, or what
+/// is at a place. It answers how many sequences of the text's bytes were replaced.
+pub(crate) fn explain<F: Files, R: Read, K: Sink, L: Ledger>(
+    alloc: Global,
+    request: &Request<'_>,
+    asked: Asked,
+    surroundings: Surroundings,
+    files: &mut F,
+    input: &mut R,
+    out: &mut K,
+    steps: &mut Steps<L>,
+) -> Result<u32, Failure> {
+    let (Task::Segment(name), Basis::Rules(rules)) = (request.task, request.basis) else {
+        return Ok(0);
+    };
+    let no_color = surroundings.no_color;
+    let faults = Colors::new(request.color, surroundings.errors_are_on_terminal, no_color);
+    let colors = Colors::new(request.color, surroundings.output_is_terminal, no_color);
+    let (table, known) = read_known(alloc, rules, request, faults, files, input, steps)?;
+    let (text, replaced) = read_text(alloc, name, request.is_lossy, faults, files, input, steps)?;
+    let mut receiver = Explaining {
+        alloc,
+        known,
+        asked,
+        style: Style {
+            layout: Layout::Text,
+            wanted: request.wanted,
+            colors,
+        },
+        unit: request.unit,
+        is_met: false,
+        made: Vec::new(alloc),
+    };
+    hand_over(
+        alloc,
+        &table,
+        &None,
+        &text,
+        request.unit,
+        &mut receiver,
+        out,
+        steps,
+    )?;
+    answer_rest(alloc, &text, request.unit, asked, receiver.is_met, out)?;
+    Ok(replaced)
+}
+
+/// Answers a place that no segment has inside or ends at: the start of the text, or none.
+fn answer_rest<K: Sink>(
+    alloc: Global,
+    text: &PlainText,
+    unit: Unit,
+    asked: Asked,
+    is_met: bool,
+    out: &mut K,
+) -> Result<(), Failure> {
+    match asked {
+        Asked::At(0) => {
+            put_all(out, b"0 is a boundary: the text begins there\n")?;
+            Ok(())
+        }
+        Asked::At(place) if !is_met => {
+            let end = units(text, unit, 0, text.len());
+            Err(past_the_end(alloc, place, end))
+        }
+        _ => Ok(()),
+    }
+}

@@ -1,0 +1,264 @@
+//! What is found in a rule file that changes nothing, and why its rules are needed.
+ghost use Rattle.std.specs.Prelude.{◌≤◌, length};
+ghost use Rattle.rbbi_text.specs.Bytes.{most_bytes};
+
+use crate::basis::properties_of;
+use crate::colors::{Colors, Surroundings};
+use crate::escapes::{Within, append_character};
+use crate::failure::{Failure, HAS_FINDINGS, IS_REFUSED};
+use crate::faults::{Source, append_position, append_shown};
+use crate::options::Request;
+use crate::reading::{RULES_LIMIT, read};
+use crate::rules::table_of_rules;
+use crate::source::position_of;
+use rbbi_builtin::add_asked_for;
+use rbbi_compile::{read_rules, rule_text};
+use rbbi_io::{Files, Sink, put_all};
+use rbbi_lint::{Effect, Findings, Pair, Part, Piece, effect_of, lint, pieces};
+use rbbi_props::PropTable;
+use rbbi_table::Table;
+use rbbi_text::{Steps, append, append_number};
+use std::alloc::{AllocError, Global};
+use std::io::Read;
+use std::sync::ledger::Ledger;
+
+/// What is said of a place of a rule file, in characters from 0.
+#[derive(Drop)]
+struct Remark {
+    place: u32,
+    text: Vec<u8>,
+}
+
+/// What is said of a rule file, and whether something was found.
+#[derive(Drop)]
+struct Report {
+    remarks: Vec<Remark>,
+    has_findings: bool,
+}
+
+impl Report {
+    fn new(alloc: Global) -> Report {
+        Report {
+            remarks: Vec::new(alloc),
+            has_findings: false,
+        }
+    }
+
+    /// Adds what was found at a place.
+    fn find(&mut self, alloc: Global, place: u32, text: &[u8]) -> Result<(), AllocError> {
+        let text = text.to_vec(alloc)?;
+        self.has_findings = true;
+        self.remarks.push(Remark { place, text })?;
+        Ok(())
+    }
+}
+
+/// Where a piece is shown: past the `|` and the space at its start.
+fn place_of(text: &str, piece: &Piece) -> u32 {
+    let mut place = piece.from;
+    for c in text.chars().skip(piece.from as usize) {
+        let is_joined = c == '|' || c.is_whitespace();
+        if piece.to <= place || !is_joined {
+            break;
+        }
+        place = place.saturating_add(1);
+    }
+    place
+}
+
+fn idle_text(part: Part) -> &'static str {
+    match part {
+        Part::Rule => "this rule changes nothing",
+        Part::Alternative => "this alternative changes nothing",
+        Part::Member => "this part of the set changes nothing",
+    }
+}
+
+/// What is said of two rules that always end together.
+fn together_text(alloc: Global, text: &str, pair: &Pair) -> Result<Vec<u8>, AllocError> {
+    let mut out = Vec::new(alloc);
+    append(b"this rule and that of line ", &mut out)?;
+    append_number(position_of(text, pair.earlier).row, &mut out)?;
+    append(b" always end together, with the statuses ", &mut out)?;
+    append_number(pair.later_status, &mut out)?;
+    append(b" and ", &mut out)?;
+    append_number(pair.earlier_status, &mut out)?;
+    Ok(out)
+}
+
+/// The report of what was found in a text.
+fn report_of(alloc: Global, text: &str, findings: &Findings) -> Result<Report, AllocError> {
+    let mut report = Report::new(alloc);
+    for piece in &findings.idle {
+        let said = idle_text(piece.part);
+        report.find(alloc, place_of(text, piece), said.as_bytes())?;
+    }
+    for place in &findings.unused {
+        report.find(alloc, *place, b"no rule uses this variable")?;
+    }
+    for place in &findings.empty {
+        let said = b"this rule can match the empty text, which is never a segment";
+        report.find(alloc, *place, said)?;
+    }
+    for pair in &findings.together {
+        let said = together_text(alloc, text, pair)?;
+        report.find(alloc, pair.later, &said)?;
+    }
+    report.remarks.sort_by_key(|remark| remark.place)?;
+    Ok(report)
+}
+
+/// The first and the last place of a line, from 1.
+fn places_in(text: &str, line: u32) -> (u32, u32) {
+    let mut row = 1u32;
+    let mut place = 0u32;
+    let mut first = u32::MAX;
+    let mut last = 0;
+    for c in text.chars() {
+        if row == line {
+            first = first.min(place);
+            last = place;
+        }
+        if c == '\n' {
+            row = row.saturating_add(1);
+        }
+        place = place.saturating_add(1);
+    }
+    (first, last)
+}
+
+/// What is said of a rule that is left out with this effect.
+fn effect_text(alloc: Global, effect: &Effect) -> Result<Vec<u8>, AllocError> {
+    let mut out = Vec::new(alloc);
+    match effect {
+        Effect::Nothing => append(idle_text(Part::Rule).as_bytes(), &mut out)?,
+        Effect::Marks(word) => {
+            append(
+                b"this rule is needed: without it other rules end after \"",
+                &mut out,
+            )?;
+            for c in word.as_str().chars() {
+                append_character(c, Within::Quotes, &mut out)?;
+            }
+            append(b"\", or with other statuses", &mut out)?;
+        }
+        Effect::Fault(error) => {
+            append(
+                b"this rule is needed: without it the file has the fault ",
+                &mut out,
+            )?;
+            append(error.label().as_bytes(), &mut out)?;
+        }
+    }
+    Ok(out)
+}
+
+/// The report of why the rules in a line are needed.
+fn reasons_of(
+    alloc: Global,
+    text: &str,
+    pieces: &[Piece],
+    line: u32,
+    table: &Table,
+    props: &PropTable,
+    ignored: bool,
+) -> Result<Report, AllocError>
+    requires { length text.now ≤ most_bytes }
+{
+    let mut report = Report::new(alloc);
+    let (first, last) = places_in(text, line);
+    for piece in pieces {
+        if piece.part == Part::Rule && piece.from <= last && first <= piece.to {
+            let effect = effect_of(alloc, text, table, *piece, props, ignored)?;
+            let said = effect_text(alloc, &effect)?;
+            let had_findings = report.has_findings;
+            report.find(alloc, piece.from, &said)?;
+            report.has_findings = had_findings || matches!(&effect, Effect::Nothing);
+        }
+    }
+    Ok(report)
+}
+
+/// The lines of a report, each with the line of its place and a caret below it.
+fn lines_of(alloc: Global, source: &Source<'_>, report: &Report) -> Result<Vec<u8>, AllocError> {
+    let mut out = Vec::new(alloc);
+    for remark in &report.remarks {
+        let position = position_of(source.text, remark.place);
+        append_position(source.name, &position, &mut out)?;
+        append(b": ", &mut out)?;
+        append(&remark.text, &mut out)?;
+        append_shown(&position, source.colors, &mut out)?;
+        append(b"\n", &mut out)?;
+    }
+    Ok(out)
+}
+
+/// The failure that no active rule stands in a line.
+fn no_rule(alloc: Global) -> Result<Failure, AllocError> {
+    let message = b"segment: no active rule stands in the line of --why\n".to_vec(alloc)?;
+    Ok(Failure::Told(IS_REFUSED, message))
+}
+
+/// The report that is asked for of the text of a rule file that has this table.
+fn report_asked_for(
+    alloc: Global,
+    text: &str,
+    why: Option<u32>,
+    table: &Table,
+    props: &PropTable,
+    ignored: bool,
+) -> Result<Report, Failure>
+    requires { length text.now ≤ most_bytes }
+{
+    let Ok(rules) = read_rules(alloc, text, props, ignored) else {
+        return Err(Failure::Memory);
+    };
+    let Some(line) = why else {
+        let findings = lint(alloc, text, &rules, table, props, ignored)?;
+        return Ok(report_of(alloc, text, &findings)?);
+    };
+    let tried = pieces(alloc, text, &rules)?;
+    let report = reasons_of(alloc, text, tried.as_slice(), line, table, props, ignored)?;
+    if report.remarks.is_empty() {
+        return Err(no_rule(alloc)?);
+    }
+    Ok(report)
+}
+
+/// Prints what is found in the rule file of this name, or why the rules in a line are needed, and
+/// answers 0.
+///
+/// If something is found, the run ends with `HAS_FINDINGS`.
+pub(crate) fn lint_file<F: Files, R: Read, K: Sink, L: Ledger>(
+    alloc: Global,
+    request: &Request<'_>,
+    name: &str,
+    why: Option<u32>,
+    surroundings: Surroundings,
+    files: &mut F,
+    input: &mut R,
+    out: &mut K,
+    steps: &mut Steps<L>,
+) -> Result<u32, Failure> {
+    let no_color = surroundings.no_color;
+    let faults = Colors::new(request.color, surroundings.errors_are_on_terminal, no_color);
+    let given = request.properties.as_slice();
+    let mut props = properties_of(alloc, given, faults, files, input, steps)?;
+    let file = read(alloc, name, RULES_LIMIT, faults, files, input)?;
+    let bytes = file.bytes(steps);
+    let ignored = request.ignore_dictionary;
+    let table = table_of_rules(alloc, name, bytes, &mut props, ignored, faults)?;
+    let Ok(text) = rule_text(bytes) else {
+        return Ok(0);
+    };
+    add_asked_for(alloc, text, &mut props)?;
+    let report = report_asked_for(alloc, text, why, &table, &props, ignored)?;
+    let colors = Colors::new(request.color, surroundings.output_is_terminal, no_color);
+    let source = Source { name, text, colors };
+    let lines = lines_of(alloc, &source, &report)?;
+    put_all(out, &lines)?;
+    if report.has_findings {
+        return Err(Failure::Told(HAS_FINDINGS, Vec::new(alloc)));
+    }
+    Ok(0)
+}

@@ -1,0 +1,153 @@
+//! The text in lines of at most so many columns.
+ghost use Rattle.std.specs.Prelude.{◌<◌, ◌≤◌, length};
+
+use crate::segments::{Receive, Segment};
+use rbbi_io::{Sink, WriteErr, put_all, put_when_full};
+use rbbi_text::{Chars, PlainText, Steps, append};
+use std::alloc::{AllocError, Global};
+use std::sync::ledger::Ledger;
+use unicode_width::UnicodeWidthStr;
+
+/// The least status of a boundary at which a line has to end.
+const MUST_BREAK: u32 = 100;
+
+/// Prints the segments in lines of at most so many columns, and leaves out the white space between
+/// the last segment of a line and the first of the next. A segment that is wider has a line to
+/// itself. Where a line has to end, its white space stays.
+#[derive(Drop)]
+pub(crate) struct Wrapped {
+    width: usize,
+    /// The columns of what was put of this line.
+    column: usize,
+    /// Whether something was.
+    is_begun: bool,
+    /// The white space that follows it.
+    space: String,
+    /// The segment of the moment up to its last white space.
+    word: String,
+    /// The bytes that wait.
+    made: Vec<u8>,
+}
+
+/// The place past the last character of the segment that isn't white space, or its start.
+fn end_of_word<L: Ledger>(text: &PlainText, segment: Segment, steps: &mut Steps<L>) -> u32
+    requires some { segment.start < segment.end }
+    requires within { segment.end ≤ length text.now }
+    ensures { result ≤ segment.end }
+{
+    let mut end = segment.start;
+    for i in segment.start..segment.end {
+        if !text.char_at(i, steps).is_whitespace() {
+            end = i + 1;
+        }
+    }
+    end
+}
+
+/// Whether a character ends a line: those of the classes BK, CR, LF and NL of UAX #14.
+fn is_line_end(c: char) -> bool {
+    matches!(c, '\u{A}'..='\u{D}' | '\u{85}' | '\u{2028}' | '\u{2029}')
+}
+
+impl Wrapped {
+    /// Lines of this many columns.
+    pub(crate) fn new(alloc: Global, width: u32) -> Wrapped {
+        Wrapped {
+            width: width as usize,
+            column: 0,
+            is_begun: false,
+            space: String::new(alloc),
+            word: String::new(alloc),
+            made: Vec::new(alloc),
+        }
+    }
+
+    /// Ends the line.
+    fn end_line(&mut self) -> Result<(), AllocError> {
+        self.column = 0;
+        self.is_begun = false;
+        append(b"\n", &mut self.made)
+    }
+
+    /// Appends the white space and the word, or the word in a line of its own.
+    fn append_word(&mut self) -> Result<(), AllocError> {
+        let columns = self.word.as_str().width();
+        let wide = self.space.as_str().width().saturating_add(columns);
+        if self.is_begun && self.column.saturating_add(wide) > self.width {
+            self.end_line()?;
+            self.column = columns;
+        } else {
+            append(self.space.as_str().as_bytes(), &mut self.made)?;
+            self.column = self.column.saturating_add(wide);
+        }
+        self.is_begun = true;
+        self.space.clear();
+        append(self.word.as_str().as_bytes(), &mut self.made)
+    }
+
+    /// Takes the characters from one place to another as a word.
+    fn take_word<L: Ledger>(
+        &mut self,
+        text: &PlainText,
+        start: u32,
+        end: u32,
+        steps: &mut Steps<L>,
+    ) -> Result<(), AllocError>
+        requires { end ≤ length text.now }
+    {
+        self.word.clear();
+        for i in start..end {
+            self.word.push(text.char_at(i, steps))?;
+        }
+        if self.word.as_str().is_empty() {
+            return Ok(());
+        }
+        self.append_word()
+    }
+
+    /// Takes the characters from one place to another as white space, but for line ends.
+    fn take_space<L: Ledger>(
+        &mut self,
+        text: &PlainText,
+        start: u32,
+        end: u32,
+        steps: &mut Steps<L>,
+    ) -> Result<(), AllocError>
+        requires { end ≤ length text.now }
+    {
+        for i in start..end {
+            let c = text.char_at(i, steps);
+            if !is_line_end(c) {
+                self.space.push(c)?;
+            }
+        }
+        Ok(())
+    }
+}
+
+impl Receive for Wrapped {
+    fn take<K: Sink, L: Ledger>(
+        &mut self,
+        text: &PlainText,
+        segment: Segment,
+        out: &mut K,
+        steps: &mut Steps<L>,
+    ) -> Result<(), WriteErr> {
+        let end = end_of_word(text, segment, steps);
+        self.take_word(text, segment.start, end, steps)?;
+        self.take_space(text, end, segment.end, steps)?;
+        if segment.status >= MUST_BREAK {
+            append(self.space.as_str().as_bytes(), &mut self.made)?;
+            self.space.clear();
+            self.end_line()?;
+        }
+        put_when_full(out, &mut self.made)
+    }
+
+    fn end<K: Sink>(&mut self, out: &mut K) -> Result<(), WriteErr> {
+        if self.is_begun {
+            self.end_line()?;
+        }
+        put_all(out, &self.made)
+    }
+}
