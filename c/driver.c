@@ -1,6 +1,8 @@
 /*
  * Plays a script as `rbbi run` does, through the C library: driver RULES TEXT SCRIPT UNIT. Places
  * count UNIT, one of chars, utf8 and utf16. Of the edits only `replace` is known, without escapes.
+ * After each line the calls that read many boundaries at once, or a segment, are compared with the
+ * questions; where they differ the status is 2.
  */
 #include <rbbi.h>
 #include <stdio.h>
@@ -113,6 +115,63 @@ static void play(rbbi_session *session, char *line) {
     }
 }
 
+static void same(int is, const char *what) {
+    if (!is) {
+        fprintf(stderr, "driver: %s differs\n", what);
+        exit(2);
+    }
+}
+
+/* Compares what is listed after `from`, three at a time, with what `next` and `status` give. */
+static void compare_forward(rbbi_session *session, uint32_t from, uint32_t to) {
+    uint32_t places[3], statuses[3], resume = from, place, status;
+    int answer = RBBI_ROOM, asked = rbbi_session_following(session, from, &place);
+    while (answer == RBBI_ROOM) {
+        size_t count;
+        answer = rbbi_session_boundaries(session, resume, to, places, statuses, 3, &count, &resume);
+        for (size_t i = 0; i < count; i++) {
+            must(rbbi_session_status(session, &status), "status");
+            same(asked == RBBI_OK && places[i] == place && statuses[i] == status, "boundaries");
+            asked = rbbi_session_next(session, &place);
+        }
+        same(answer == RBBI_OK || (count == 3 && resume == places[2]), "resume");
+    }
+    same(answer == RBBI_OK && (asked == RBBI_DONE || place > to), "the end of boundaries");
+}
+
+/* The same backwards, without statuses. */
+static void compare_back(rbbi_session *session, uint32_t from, uint32_t to) {
+    uint32_t places[3], resume = from, place;
+    int answer = RBBI_ROOM, asked = rbbi_session_preceding(session, from, &place);
+    while (answer == RBBI_ROOM) {
+        size_t count;
+        answer = rbbi_session_boundaries_before(session, resume, to, places, NULL, 3, &count, &resume);
+        for (size_t i = 0; i < count; i++) {
+            same(asked == RBBI_OK && places[i] == place, "boundaries_before");
+            asked = rbbi_session_previous(session, &place);
+        }
+    }
+    same(answer == RBBI_OK && (asked == RBBI_DONE || place < to), "the end of boundaries_before");
+}
+
+static void compare(rbbi_session *session, uint32_t from) {
+    uint32_t cursor, now, begin, end, status, place = 0;
+    must(rbbi_session_current(session, &cursor), "current");
+    int answer = rbbi_session_segment(session, from, &begin, &end, &status);
+    must(rbbi_session_current(session, &now), "current");
+    same(now == cursor, "the cursor");
+    same(answer == rbbi_session_following(session, from, &place), "segment");
+    if (answer == RBBI_OK) {
+        must(rbbi_session_status(session, &now), "status");
+        same(end == place && now == status, "the end of the segment");
+        must(rbbi_session_preceding(session, end, &place), "preceding");
+        same(begin == place, "the start of the segment");
+    }
+    compare_forward(session, from, from + 40);
+    compare_back(session, from + 40, from);
+    must(rbbi_session_is_boundary(session, cursor, &now), "is");
+}
+
 int main(int count, char **words) {
     if (count != 5) {
         return 2;
@@ -140,8 +199,11 @@ int main(int count, char **words) {
     must(rbbi_session_open(&session, &loaded, text, length, unit), "open");
     rbbi_table_close(&loaded);
     char *script = bytes_of(words[3], &length);
+    uint32_t from = 0;
     for (char *line = strtok(script, "\n"); line; line = strtok(NULL, "\n")) {
         play(&session, line);
+        compare(&session, from);
+        from = (from + 1009) % 3001;
     }
     rbbi_session_close(&session);
     free(rules);

@@ -50,6 +50,7 @@ static int place_of(rbbi_session *session, uint32_t from) {
 
 int main(void) {
     const char *rules = "[a-z]+{200}; [0-9]+([.][0-9]+)?{100}; \\p{X=Y}; .;";
+    const uint16_t wide[] = {'.', 0xe9};
     char text[3000], insert[2000], file[1000];
     size_t length;
     memset(text, 'a', sizeof text);
@@ -76,6 +77,10 @@ int main(void) {
             DONE(rbbi_session_replace(&session, 1000, 5, insert, sizeof insert));
         }
         wrong |= place_of(&session, 5) != 1000 || place_of(&session, 1000) != 3000;
+        DONE(rbbi_session_text(&session, 998, 1002, file, sizeof file, &length));
+        wrong |= length != 4 || memcmp(file, "aa11", 4) != 0;
+        DONE(rbbi_session_replace_utf16(&session, 0, 1, wide, 2, NULL));
+        wrong |= place_of(&session, 0) != 1 || place_of(&session, 4) != 1002;
         rbbi_files_close(&files);
         rbbi_table_close(&table);
         rbbi_table_close(&loaded);

@@ -104,6 +104,54 @@ int main(void) {
     IS(told == 7, 1);
     IS(rbbi_session_statuses(&session, NULL, 0, &count), RBBI_ROOM);
     IS(count == 1, 1);
+
+    /* many boundaries, a segment and the text */
+    uint32_t places[2], resume = 77;
+    char room[4];
+    IS(rbbi_session_boundaries(&session, 0, 9, NULL, NULL, 2, &count, &resume), RBBI_NULL);
+    IS(rbbi_session_boundaries(&session, 0, 9, places, NULL, 2, &count, NULL), RBBI_NULL);
+    IS(rbbi_session_boundaries(&session, 0, 9, places, NULL, 2, &count, &resume), RBBI_ROOM);
+    IS(count == 2 && places[0] == 2 && places[1] == 3 && resume == 3, 1);
+    IS(rbbi_session_boundaries(&session, resume, 9, places, NULL, 2, &count, &resume), RBBI_OK);
+    IS(count == 2 && places[0] == 5 && places[1] == 7, 1);
+    IS(rbbi_session_boundaries(&session, 2, 9, NULL, NULL, 0, &count, &resume), RBBI_ROOM);
+    IS(count == 0 && resume == 2, 1);
+    IS(rbbi_session_boundaries_before(&session, 4, 2, places, NULL, 2, &count, &resume), RBBI_OK);
+    IS(count == 2 && places[0] == 3 && places[1] == 2, 1);
+    IS(rbbi_session_boundaries(&second, 4000000000u, 5, places, NULL, 2, &count, &resume), RBBI_OK);
+    IS(count == 0 && resume == 4000000000u, 1);
+    IS(rbbi_session_segment(&session, 4, &told, &resume, NULL), RBBI_NULL);
+    IS(rbbi_session_segment(&session, 6, &told, &resume, places), RBBI_OK);
+    IS(told == 5 && resume == 7, 1);
+    IS(rbbi_session_segment(&session, 7, &told, &resume, places), RBBI_DONE);
+    IS(rbbi_session_text(&session, 3, 8, room, 4, &count), RBBI_OUTSIDE);
+    IS(rbbi_session_text(&session, 3, 2, room, 4, &count), RBBI_OUTSIDE);
+    IS(rbbi_session_text(&session, 3, 6, room, 4, &count), RBBI_INSIDE);
+    IS(rbbi_session_text(&session, 3, 7, room, 4, &count), RBBI_ROOM);
+    IS(count == 6 && memcmp(room, "12\xf0\x9f", 4) == 0, 1);
+    IS(rbbi_session_text(&session, 1, 5, room, 4, &count), RBBI_OK);
+    IS(count == 4 && memcmp(room, "b 12", 4) == 0, 1);
+
+    /* UTF-16 */
+    const uint16_t pair[] = {'x', 0xd83d, 0xde00, 'y'}, low[] = {'x', 0xdc00}, high[] = {0xd83d, 'y'};
+    rbbi_session third = RBBI_INIT;
+    IS(rbbi_session_replace_utf16(&session, 0, 2, low, 2, &told), RBBI_LONE);
+    IS(told == 1, 1);
+    IS(rbbi_session_replace_utf16(&session, 0, 2, NULL, 1, &told), RBBI_NULL);
+    IS(rbbi_session_replace_utf16(&session, 0, 8, pair, 4, NULL), RBBI_OUTSIDE);
+    IS(rbbi_session_replace_utf16(&session, 0, 2, pair, 4, NULL), RBBI_OK);
+    IS(rbbi_session_length(&session, &told), RBBI_OK);
+    IS(told == 9, 1);
+    IS(rbbi_session_open_utf16(&third, &table, pair, 4, RBBI_CHARS, NULL), RBBI_HANDLE);
+    IS(rbbi_table_named(&table, "word"), RBBI_OK);
+    IS(rbbi_session_open_utf16(&third, &table, high, 2, RBBI_CHARS, &told), RBBI_LONE);
+    IS(told == 0, 1);
+    IS(rbbi_session_open_utf16(&third, &table, pair, 4, 3, &told), RBBI_UNIT);
+    IS(rbbi_session_open_utf16(&third, &table, pair, 4, RBBI_CHARS, NULL), RBBI_OK);
+    IS(rbbi_session_length(&third, &told), RBBI_OK);
+    IS(told == 3, 1);
+    rbbi_session_close(&third);
+    rbbi_table_close(&table);
     rbbi_session_close(&session);
     rbbi_session_close(&session);
     rbbi_session_close(&second);

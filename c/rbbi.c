@@ -18,6 +18,11 @@ typedef struct {
     uint32_t row, column, byte;
 } told;
 
+/* A segment as the proved side has it. */
+typedef struct {
+    uint32_t from, to, status;
+} segment;
+
 uint32_t rbbi_c_properties(rbbi_files *);
 uint32_t rbbi_c_properties_add(rbbi_files *, const uint8_t *, size_t, const uint8_t *, size_t,
                                told *, uint8_t *, size_t);
@@ -28,7 +33,17 @@ uint32_t rbbi_c_table_named(const uint8_t *, size_t, rbbi_table *);
 uint32_t rbbi_c_table_share(rbbi_table *, rbbi_table *);
 uint32_t rbbi_c_table_write(rbbi_table *, uint8_t *, size_t, size_t *);
 uint32_t rbbi_c_open(rbbi_table *, const uint8_t *, size_t, uint32_t, rbbi_session *);
+uint32_t rbbi_c_open_utf16(rbbi_table *, const uint16_t *, size_t, uint32_t, rbbi_session *,
+                           uint32_t *);
 uint32_t rbbi_c_replace(rbbi_session *, uint32_t, uint32_t, const uint8_t *, size_t);
+uint32_t rbbi_c_replace_utf16(rbbi_session *, uint32_t, uint32_t, const uint16_t *, size_t,
+                              uint32_t *);
+uint32_t rbbi_c_part(rbbi_session *, uint32_t, uint32_t, uint8_t *, size_t, size_t *);
+uint32_t rbbi_c_boundaries(rbbi_session *, uint32_t, uint32_t, uint32_t *, size_t, uint32_t *,
+                           size_t, size_t *, uint32_t *);
+uint32_t rbbi_c_boundaries_before(rbbi_session *, uint32_t, uint32_t, uint32_t *, size_t,
+                                  uint32_t *, size_t, size_t *, uint32_t *);
+uint32_t rbbi_c_segment(rbbi_session *, uint32_t, segment *);
 uint32_t rbbi_c_length(rbbi_session *, uint32_t *);
 uint32_t rbbi_c_statuses(rbbi_session *, uint32_t *, size_t, size_t *);
 uint32_t rbbi_c_first(rbbi_session *, uint32_t *);
@@ -71,6 +86,7 @@ const char *rbbi_message(int answer) {
         "the buffer is too small",
         "there is a fault in the rules, the property file or the table file",
         "the library has no table of this name",
+        "a surrogate of a text in UTF-16 is in no pair",
     };
     if (answer < 0 || answer >= (int)(sizeof messages / sizeof *messages)) {
         return "this is no answer of rbbi";
@@ -226,6 +242,22 @@ int rbbi_session_open(rbbi_session *session, rbbi_table *table, const char *text
     return answer;
 }
 
+int rbbi_session_open_utf16(rbbi_session *session, rbbi_table *table, const uint16_t *text,
+                            size_t length, int unit, uint32_t *lone) {
+    if (!session || !table || (!text && length)) {
+        return RBBI_NULL;
+    }
+    uint32_t other = 0;
+    rbbi_table own = RBBI_INIT;
+    int answer = share(table, &own);
+    if (answer == RBBI_OK) {
+        answer = (int)rbbi_c_open_utf16(&own, text ? text : (const uint16_t *)nothing, length,
+                                        (uint32_t)unit, session, lone ? lone : &other);
+        rbbi_c_close(&own);
+    }
+    return answer;
+}
+
 void rbbi_session_close(rbbi_session *session) {
     if (session) {
         rbbi_c_close(session);
@@ -238,6 +270,26 @@ int rbbi_session_replace(rbbi_session *session, uint32_t at, uint32_t remove, co
         return RBBI_NULL;
     }
     return (int)rbbi_c_replace(session, at, remove, from(insert), length);
+}
+
+int rbbi_session_replace_utf16(rbbi_session *session, uint32_t at, uint32_t remove,
+                               const uint16_t *insert, size_t length, uint32_t *lone) {
+    if (!session || (!insert && length)) {
+        return RBBI_NULL;
+    }
+    uint32_t other = 0;
+    return (int)rbbi_c_replace_utf16(session, at, remove,
+                                     insert ? insert : (const uint16_t *)nothing, length,
+                                     lone ? lone : &other);
+}
+
+int rbbi_session_text(rbbi_session *session, uint32_t from, uint32_t to, char *room, size_t size,
+                      size_t *length) {
+    if (!session || (!room && size) || !length) {
+        return RBBI_NULL;
+    }
+    return (int)rbbi_c_part(session, from, to, room ? (uint8_t *)room : (uint8_t *)nothing, size,
+                            length);
 }
 
 int rbbi_session_length(rbbi_session *session, uint32_t *length) {
@@ -285,4 +337,42 @@ int rbbi_session_statuses(rbbi_session *session, uint32_t *room, size_t size, si
         return RBBI_NULL;
     }
     return (int)rbbi_c_statuses(session, room ? room : nothing, size, count);
+}
+
+/* No statuses are wanted where C passes no room for them. */
+static uint32_t none[1];
+
+int rbbi_session_boundaries(rbbi_session *session, uint32_t from, uint32_t to, uint32_t *places,
+                            uint32_t *statuses, size_t room, size_t *count, uint32_t *resume) {
+    if (!session || (!places && room) || !count || !resume) {
+        return RBBI_NULL;
+    }
+    return (int)rbbi_c_boundaries(session, from, to, places ? places : nothing, room,
+                                  statuses ? statuses : none, statuses ? room : 0, count, resume);
+}
+
+int rbbi_session_boundaries_before(rbbi_session *session, uint32_t from, uint32_t to,
+                                   uint32_t *places, uint32_t *statuses, size_t room,
+                                   size_t *count, uint32_t *resume) {
+    if (!session || (!places && room) || !count || !resume) {
+        return RBBI_NULL;
+    }
+    return (int)rbbi_c_boundaries_before(session, from, to, places ? places : nothing, room,
+                                         statuses ? statuses : none, statuses ? room : 0, count,
+                                         resume);
+}
+
+int rbbi_session_segment(rbbi_session *session, uint32_t at, uint32_t *from, uint32_t *to,
+                         uint32_t *status) {
+    if (!session || !from || !to || !status) {
+        return RBBI_NULL;
+    }
+    segment found = {0, 0, 0};
+    uint32_t answer = rbbi_c_segment(session, at, &found);
+    if (answer == RBBI_OK) {
+        *from = found.from;
+        *to = found.to;
+        *status = found.status;
+    }
+    return (int)answer;
 }

@@ -30,10 +30,11 @@
  * 16,777,216 characters.
  *
  * ANSWERS. Each call but the close calls returns an int: RBBI_OK, RBBI_DONE, or an error. An error
- * leaves every handle and every number as it was, with two exceptions: RBBI_FAULT writes the fault,
- * and RBBI_ROOM writes the length and as much as fits. No call ends the process, writes or reads a
- * file, or waits, but for the turns above. Opening, editing, compiling, loading and writing
- * allocate memory. Questions don't; that isn't proved, but seen by reading the code.
+ * leaves every handle and every number as it was, with three exceptions: RBBI_FAULT writes the
+ * fault, RBBI_LONE the number of the surrogate, and RBBI_ROOM the length and as much as fits. No
+ * call ends the process, writes or reads a file, or waits, but for the turns above. Opening,
+ * editing, compiling, loading, writing and rbbi_session_text allocate memory. Questions don't; that
+ * isn't proved, but seen by reading the code.
  */
 #ifndef RBBI_H
 #define RBBI_H
@@ -46,7 +47,7 @@ extern "C" {
 #endif
 
 /* The version of this header: new calls raise its second number, changed ones its first. */
-#define RBBI_VERSION "2.0.0"
+#define RBBI_VERSION "2.1.0"
 
 /* A list of property files, a table and a session. */
 typedef struct rbbi_files {
@@ -83,7 +84,9 @@ enum {
     RBBI_MEMORY = 9,   /* memory ran out */
     RBBI_ROOM = 10,    /* the buffer is too small; a prefix and the length are written */
     RBBI_FAULT = 11,   /* rules, a property file or a table file have a fault, which is written */
-    RBBI_NAME = 12     /* the library has no table of this name */
+    RBBI_NAME = 12,    /* the library has no table of this name */
+    RBBI_LONE = 13     /* a text in UTF-16 has a surrogate that is in no pair, whose number is
+                          written */
 };
 
 /* The units of places, numbers and lengths. */
@@ -141,7 +144,9 @@ int rbbi_table_compile(rbbi_table *table, rbbi_files *files, const void *rules, 
 int rbbi_table_load(rbbi_table *table, const void *bytes, size_t length, rbbi_fault *fault);
 
 /* Loads a built-in table: "grapheme", "word" or "sentence" of UAX #29, or "line" of UAX #14, over
-   Unicode 18.0. */
+   Unicode 18.0. Statuses: of words, by the character that ends one, 100 for a digit, 200 for a
+   letter, 300 for kana, 400 for an ideograph, else 0; of sentences 0 if a terminator ends one, else
+   100; of lines 100 if the line must be broken there, else 0; of graphemes 0. */
 int rbbi_table_named(rbbi_table *table, const char *name);
 
 /* Makes `other` another handle of the table. */
@@ -160,6 +165,11 @@ void rbbi_table_close(rbbi_table *table);
 int rbbi_session_open(rbbi_session *session, rbbi_table *table, const char *text, size_t length,
                       int unit);
 
+/* Opens a session over a text in UTF-16 of `length` units. RBBI_LONE: a surrogate in it is in no
+   pair; the number of the first such unit, from 0, goes to `lone`, which may be NULL. */
+int rbbi_session_open_utf16(rbbi_session *session, rbbi_table *table, const uint16_t *text,
+                            size_t length, int unit, uint32_t *lone);
+
 void rbbi_session_close(rbbi_session *session);
 
 /* Replaces `remove` units from `at` on by the `length` bytes of UTF-8 at `insert`, and sets the
@@ -167,8 +177,18 @@ void rbbi_session_close(rbbi_session *session);
 int rbbi_session_replace(rbbi_session *session, uint32_t at, uint32_t remove, const char *insert,
                          size_t length);
 
+/* Replaces them by the `length` units of UTF-16 at `insert`. RBBI_LONE: as above. */
+int rbbi_session_replace_utf16(rbbi_session *session, uint32_t at, uint32_t remove,
+                               const uint16_t *insert, size_t length, uint32_t *lone);
+
 /* The length of the text. */
 int rbbi_session_length(rbbi_session *session, uint32_t *length);
+
+/* Writes the text from `from` to `to` in UTF-8 into `room` of `size` bytes, and how many bytes it
+   has to `length`. RBBI_ROOM: it has more. RBBI_OUTSIDE: `to` lies past the end or before `from`.
+   RBBI_INSIDE: one of them is inside a character. `room` may be NULL if `size` is 0. */
+int rbbi_session_text(rbbi_session *session, uint32_t from, uint32_t to, char *room, size_t size,
+                      size_t *length);
 
 /* ---- questions: each answer is that of a scan of the whole text as it is. The cursor moves to the
    boundary that is written. RBBI_DONE if there is none ---- */
@@ -201,6 +221,28 @@ int rbbi_session_status(rbbi_session *session, uint32_t *status);
    numbers, and how many there are to `count`. RBBI_ROOM: there are more. `room` may be NULL if
    `size` is 0. */
 int rbbi_session_statuses(rbbi_session *session, uint32_t *room, size_t size, size_t *count);
+
+/* ---- many boundaries at once. The cursor stays where it is. A question costs a search each time;
+   these calls go on from boundary to boundary ---- */
+
+/* Writes the boundaries after `from`, up to and with `to`, in order, into `places`, and the largest
+   status of each into `statuses`, each of `room` numbers, and how many were written to `count`.
+   RBBI_ROOM: there are more. `resume` is the last one written, or `from` if none was: what is left
+   is what a call from `resume` on writes. `statuses` may be NULL, and if `room` is 0, `places` too.
+   For all boundaries but the one at 0, ask from 0 to UINT32_MAX. */
+int rbbi_session_boundaries(rbbi_session *session, uint32_t from, uint32_t to, uint32_t *places,
+                            uint32_t *statuses, size_t room, size_t *count, uint32_t *resume);
+
+/* Writes the boundaries before `from`, down to and with `to`, the last one first. All else is as
+   with rbbi_session_boundaries. */
+int rbbi_session_boundaries_before(rbbi_session *session, uint32_t from, uint32_t to,
+                                   uint32_t *places, uint32_t *statuses, size_t room,
+                                   size_t *count, uint32_t *resume);
+
+/* Where the segment that holds the character after `at` begins and ends, and the largest status of
+   its end. If `at` is inside a character, that is the one meant. RBBI_DONE if `at` is at the end of the text or past it. The cursor stays where it is. */
+int rbbi_session_segment(rbbi_session *session, uint32_t at, uint32_t *from, uint32_t *to,
+                         uint32_t *status);
 
 #ifdef __cplusplus
 }

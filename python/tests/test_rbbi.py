@@ -2,11 +2,13 @@
 import ctypes
 import inspect
 import random
+import sys
 import threading
 import unittest
+from array import array
 
 import rbbi
-from rbbi import Answer, Error, Fault, Segment, Table, Unit
+from rbbi import Answer, Error, Fault, LoneSurrogate, Segment, Table, Unit
 
 RULES = """!!chain;
 $Letter = [A-Za-z\u00e4];
@@ -50,6 +52,55 @@ class Sessions(unittest.TestCase):
             self.assertFalse(session.is_boundary(1))
             self.assertEqual(session.current(), 2)
             self.assertIsNone(session.following(2 ** 32 - 1))
+
+    def test_boundaries_are_those_that_next_gives(self):
+        text = "can't \u00e432 \U0001f600" * 2000
+        for unit in Unit:
+            with self.table.session(text, unit) as session:
+                ends = [(segment.end, segment.status) for segment in session]
+                session.following(7)
+                cursor = session.current()
+                self.assertEqual(list(zip(*session.boundaries())), ends)
+                self.assertEqual(list(zip(*session.boundaries(5, 30))),
+                                 [end for end in ends if 5 < end[0] <= 30])
+                self.assertEqual(list(session.boundaries_before().places),
+                                 [end for end, _ in reversed(ends)] + [0])
+                self.assertEqual(list(session.boundaries_before(30, 5).places),
+                                 [end for end, _ in reversed(ends) if 5 <= end < 30])
+                self.assertEqual(session.current(), cursor)
+
+    def test_the_segment_at_a_place_leaves_the_cursor(self):
+        with self.table.session("can't 32") as session:
+            session.next()
+            self.assertEqual([session.segment(place) for place in (0, 4, 5, 7)],
+                             [(0, 5, 200), (0, 5, 200), (5, 6, 0), (6, 8, 100)])
+            self.assertIsNone(session.segment(8))
+            self.assertEqual(session.current(), 5)
+
+    def test_text_is_read_back(self):
+        with self.table.session('a\U0001f600b', Unit.UTF16) as session:
+            self.assertEqual((session.text(), session.text(1, 3), session.text(1, 1)),
+                             ('a\U0001f600b', '\U0001f600', ''))
+            for start, end, answer in [(0, 5, Answer.OUTSIDE), (3, 1, Answer.OUTSIDE),
+                                       (0, 2, Answer.INSIDE)]:
+                with self.assertRaises(Error) as caught:
+                    session.text(start, end)
+                self.assertEqual(caught.exception.answer, answer)
+
+    def test_utf16_is_taken_and_lone_surrogates_are_refused(self):
+        units = array('H', 'a\U0001f600b'.encode(f'utf-16-{sys.byteorder[0]}e'))
+        with self.table.session_utf16(units) as session:
+            self.assertEqual((len(session), session.text()), (4, 'a\U0001f600b'))
+            session.replace_utf16(1, 2, array('H', [0x63]))
+            self.assertEqual(session.text(), 'acb')
+            with self.assertRaises(LoneSurrogate) as caught:
+                session.replace_utf16(0, 0, array('H', [0x61, 0xdc00]))
+            self.assertEqual((caught.exception.at, session.text()), (1, 'acb'))
+        with self.assertRaises(LoneSurrogate) as caught:
+            self.table.session_utf16(array('H', [0x61, 0x62, 0xd83d, 0x63]))
+        self.assertEqual(caught.exception.at, 2)
+        with self.assertRaises(ValueError):
+            self.table.session_utf16(b'abc')
 
     def test_edits_answer_as_a_new_session_over_the_new_text(self):
         draw = random.Random(1)

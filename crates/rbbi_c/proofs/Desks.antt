@@ -3,11 +3,15 @@ use Rattle.std.proofs.Common.{◌≡◌, ℕ, List, sym, ap, ◌∙◌, subst, R
 use Rattle.rbbi_model.specs.declared.unit.Unit.{Unit as TextUnit}
 use Rattle.rbbi_model.specs.Tables.{Table}
 use Rattle.rbbi_session.specs.UnitSessions.{UnitSession}
-use Rattle.rbbi_session.specs.Walks.{Edits}
+use Rattle.rbbi_session.specs.Walks.{Edits, reported}
 use Rattle.rbbi_session.specs.UnitWalks.{UnitSetting, unit_view}
 use Rattle.rbbi_session.specs.declared.unit_error.UnitEditErr.{UnitEditErr}
 use Rattle.rbbi_session.specs.declared.unit_error.UnitEditErr.TheVariants.{Outside, Inside, TooLong, Memory}
-use Rattle.rbbi_session.specs.Pausing.{Paused, IsPaused, resumed}
+use Rattle.rbbi_model.specs.Plays.{measured_boundaries}
+use Rattle.rbbi_session.specs.Sessions.{Session}
+use Rattle.rbbi_session.specs.Pausing.{Paused, IsPaused, IsPausedBy, resumed}
+use Rattle.rbbi_c.specs.Holding.{StaysThere}
+use Rattle.rbbi_c.specs.inner.Bounds.{HasSameState}
 
 pub resumed-session : (unit : TextUnit) (table : Table) (paused : Paused) (session : UnitSession) → session.unit ≡ unit → session.asked.table ≡ table →
     IsPaused session.asked paused
@@ -40,3 +44,28 @@ desk-to-desk P unit {table = table} {self = self} {was = was} {new = new} paused
     let is = resumed-session unit table left new (ap (λ (s : UnitSetting). s.unit) setting ∙ ap (λ (s : UnitSession). s.unit) on)
     (ap (λ (s : UnitSetting). s.table) setting ∙ ap (λ (s : UnitSession). s.asked.table) on) kept in
     subst (P self) (sym is) (subst (λ s. P s new) (on ∙ view) holds)
+
+-- a session by characters that goes on by a desk's table, and is read, stays there
+pub read_stays : (self : UnitSession) (unit : TextUnit) {table now : Table} (paused left : Paused) (old new : Session) → now ≡ table
+    → record { unit = unit; asked = resumed table paused } ≡ self → old ≡ resumed now paused → HasSameState old new → IsPaused new left
+    → StaysThere self (record { unit = unit; asked = resumed table left })
+read_stays self unit paused left old new same view goes state kept = record {
+  unit_is = ap (λ (s : UnitSession). s.unit) view;
+  table_is = ap (λ (s : UnitSession). s.asked.table) view;
+  state_is = kept.state_is ∙ state.state_is ∙ ap (λ (s : Session). s.state) goes ∙ ap (λ (s : UnitSession). s.asked.state) view;
+}
+
+-- what is left keeps to the desk's table
+pub left_by : {table now : Table} (paused left : Paused) (old new : Session) → now ≡ table → old ≡ resumed now paused → HasSameState old new
+    → IsPaused new left → IsPausedBy table left
+left_by paused left old new same goes state kept =
+    subst (λ (t : Table). IsPausedBy t left) (state.table_is ∙ ap (λ (s : Session). s.table) goes ∙ same) kept.by_table
+
+-- the boundaries that a session by characters has are those that the desk reports
+pub reported_by : (self : UnitSession) (unit : TextUnit) {table now : Table} (paused : Paused) (old : Session) → now ≡ table
+    → record { unit = unit; asked = resumed table paused } ≡ self → old ≡ resumed now paused
+    → measured_boundaries old.table unit old.state.text ≡ reported unit_view self
+reported_by self unit paused old same view goes =
+    ap (λ (s : Session). measured_boundaries s.table unit s.state.text) goes
+    ∙ ap (λ (t : Table). measured_boundaries t unit paused.state.text) same
+    ∙ ap (reported unit_view) view

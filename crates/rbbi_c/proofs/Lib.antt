@@ -1,4 +1,10 @@
 pub mod Values
 pub mod Handles
 pub mod Desks
+pub mod Within
+pub mod Found
+pub mod Listed
+pub mod Ranged
+pub mod Segments
+pub mod Spelled
 pub mod Compiled

@@ -1,5 +1,5 @@
 -- What a handle holds.
-use Rattle.std.specs.Prelude.{List, Option, None, Some}
+use Rattle.std.specs.Prelude.{◌≡◌, List, Option, None, Some}
 use Rattle.rbbi_model.specs.Tables.{Table as BreakTable}
 use Rattle.rbbi_props.specs.Rows.{File}
 use Rattle.rbbi_session.specs.UnitSessions.{UnitSession}
@@ -34,3 +34,9 @@ files_in (Some (Session session)) = None
 abbrev pub HoldsSomething : Option Held → Type 0
 HoldsSomething None = ⊥
 HoldsSomething (Some held) = Unit {0}
+
+-- a session that was read: its unit, table, text and cursor are as before, and only what is kept of its boundaries may differ
+pub record StaysThere (old new : UnitSession) : Type 0 where
+  pub unit_is : new.unit ≡ old.unit
+  pub table_is : new.asked.table ≡ old.asked.table
+  pub state_is : new.asked.state ≡ old.asked.state

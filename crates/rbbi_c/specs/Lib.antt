@@ -9,3 +9,9 @@ pub mod Faults
 pub mod Tables
 pub mod Named
 pub mod Compiling
+pub mod Ranges
+pub mod Segments
+pub mod Listing
+pub mod Parts
+pub mod Wide
+pub mod inner

@@ -35,3 +35,6 @@ pub(crate) const FAULT: u32 = 11;
 
 /// No built-in table has this name.
 pub(crate) const NAME: u32 = 12;
+
+/// A surrogate of a text in UTF-16 is alone.
+pub(crate) const LONE: u32 = 13;

@@ -10,6 +10,7 @@ use crate::asking::{Ask, Told, answered};
 use crate::copying::copy_front;
 use crate::shared::SharedTable;
 use rbbi_session::{Paused, UnitEditErr, UnitSession, Walk};
+use rbbi_table::FrontPlaces;
 use rbbi_text::{Pieces, Steps, Unit};
 use std::alloc::{AllocError, Global};
 use std::marker::Model;
@@ -19,20 +20,24 @@ use std::sync::ledger::Ledger;
 /// as a [`UnitSession`].
 #[derive(Drop)]
 pub struct Desk {
-    table: SharedTable,
-    unit: Unit,
-    paused: Paused<Pieces>,
+    pub(crate) table: SharedTable,
+    pub(crate) unit: Unit,
+    pub(crate) paused: Paused<Pieces>,
+    /// Space for searches in the table.
+    pub(crate) marks: FrontPlaces,
 }
 
 impl Model for Desk {
     ghost use Rattle.rbbi_session.specs.UnitSessions.{UnitSession};
+    ghost use Rattle.std.specs.Prelude.{◌≡◌};
     ghost use Rattle.rbbi_session.specs.Pausing.{IsPausedBy, resumed};
 
     ghost Value = { UnitSession };
 
     ghost view = { λ desk. record { unit = desk.unit; asked = resumed desk.table desk.paused } };
 
-    ghost invariant = { λ desk. IsPausedBy desk.table desk.paused };
+    ghost invariant = { λ desk. IsPausedBy desk.table desk.paused
+        × (desk.marks ≡ desk.table.slashes) };
 }
 
 impl Desk {
@@ -45,12 +50,14 @@ impl Desk {
     ) -> Result<Desk, AllocError>
         ensures { IfOk result (λ desk. IsOpenedBy unit table text desk) }
     {
+        let marks = FrontPlaces::new(alloc, table.table())?;
         let session = UnitSession::open(alloc, table.table(), text, unit)?;
         let paused = session.pause();
         Ok(Desk {
             table,
             unit,
             paused,
+            marks,
         })
     }
 
@@ -63,6 +70,7 @@ impl Desk {
             table,
             unit,
             paused,
+            marks,
         } = self;
         let mut session = UnitSession::resume(table.table(), paused, unit);
         let told = answered(&mut session, asked, steps);
@@ -71,6 +79,7 @@ impl Desk {
             table,
             unit,
             paused,
+            marks,
         };
         (desk, told)
     }
@@ -90,6 +99,7 @@ impl Desk {
             table,
             unit,
             paused,
+            marks,
         } = self;
         let mut session = UnitSession::resume(table.table(), paused, unit);
         let edited = session.replace(at, remove, insert, steps);
@@ -98,6 +108,7 @@ impl Desk {
             table,
             unit,
             paused,
+            marks,
         };
         (desk, edited)
     }
@@ -111,6 +122,7 @@ impl Desk {
             table,
             unit,
             paused,
+            marks,
         } = self;
         let session = UnitSession::resume(table.table(), paused, unit);
         let length = session.units();
@@ -119,6 +131,7 @@ impl Desk {
             table,
             unit,
             paused,
+            marks,
         };
         (desk, length)
     }
@@ -133,6 +146,7 @@ impl Desk {
             table,
             unit,
             paused,
+            marks,
         } = self;
         let session = UnitSession::resume(table.table(), paused, unit);
         let list = session.status_list();
@@ -143,6 +157,7 @@ impl Desk {
             table,
             unit,
             paused,
+            marks,
         };
         (desk, count)
     }

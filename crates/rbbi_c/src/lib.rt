@@ -3,6 +3,7 @@
 
 mod answering;
 mod asking;
+mod bounds;
 mod codes;
 mod compiling;
 mod copying;
@@ -11,17 +12,23 @@ mod faults;
 mod handle;
 mod held;
 mod lending;
+mod listing;
 mod loading;
 mod loose;
 mod named;
 mod opening;
+mod part;
 mod questions;
+mod ranges;
+mod reading;
 mod rules;
+mod segment;
 mod sessions;
 mod shared;
 mod tables;
 #[cfg(test)]
 mod tests;
+mod wide;
 
 pub use faults::Fault;
 pub use handle::Handle;
@@ -30,6 +37,9 @@ pub use questions::{
     rbbi_c_current, rbbi_c_first, rbbi_c_following, rbbi_c_is_boundary, rbbi_c_last, rbbi_c_next,
     rbbi_c_preceding, rbbi_c_previous, rbbi_c_status,
 };
+pub use ranges::{rbbi_c_boundaries, rbbi_c_boundaries_before, rbbi_c_part, rbbi_c_segment};
 pub use rules::{rbbi_c_properties, rbbi_c_properties_add, rbbi_c_table_compile};
+pub use segment::Segment;
 pub use sessions::{rbbi_c_close, rbbi_c_length, rbbi_c_open, rbbi_c_replace, rbbi_c_statuses};
 pub use tables::{rbbi_c_table_load, rbbi_c_table_share, rbbi_c_table_write};
+pub use wide::{rbbi_c_open_utf16, rbbi_c_replace_utf16};

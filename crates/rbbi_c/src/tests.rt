@@ -4,9 +4,12 @@ use crate::faults::Fault;
 use crate::handle::Handle;
 use crate::named::rbbi_c_table_named;
 use crate::questions::{rbbi_c_following, rbbi_c_is_boundary, rbbi_c_next, rbbi_c_status};
+use crate::ranges::{rbbi_c_boundaries, rbbi_c_boundaries_before, rbbi_c_part, rbbi_c_segment};
 use crate::rules::{rbbi_c_properties, rbbi_c_properties_add, rbbi_c_table_compile};
+use crate::segment::Segment;
 use crate::sessions::{rbbi_c_close, rbbi_c_length, rbbi_c_open, rbbi_c_replace, rbbi_c_statuses};
 use crate::tables::{rbbi_c_table_load, rbbi_c_table_share, rbbi_c_table_write};
+use crate::wide::rbbi_c_replace_utf16;
 use std::process::Abort;
 use std::rt::Memory;
 
@@ -100,6 +103,63 @@ fn check_statuses(rt: &impl Abort, memory: Memory, session: &mut Handle) {
     assert!(rt; code == codes::OK && room[0] == 7 && count == 1);
 }
 
+/// Lists boundaries forward, with too little room, and back.
+fn check_boundaries(rt: &impl Abort, memory: Memory, session: &mut Handle) {
+    let mut places = [0; 2];
+    let mut none = [];
+    let mut count = 0;
+    let mut resume = 0;
+    let code = rbbi_c_boundaries(
+        memory,
+        session,
+        0,
+        9,
+        &mut places,
+        &mut none,
+        &mut count,
+        &mut resume,
+    );
+    assert!(rt; code == codes::ROOM && count == 2 && resume == 4);
+    assert!(rt; places[0] == 2 && places[1] == 4);
+    let code = rbbi_c_boundaries_before(
+        memory,
+        session,
+        4,
+        0,
+        &mut places,
+        &mut none,
+        &mut count,
+        &mut resume,
+    );
+    assert!(rt; code == codes::OK && places[0] == 2 && places[1] == 0);
+}
+
+/// Asks for the segment that has the U+00E9, and reads it.
+fn check_segment(rt: &impl Abort, memory: Memory, session: &mut Handle) {
+    let mut segment = Segment {
+        from: 0,
+        to: 0,
+        status: 0,
+    };
+    let code = rbbi_c_segment(memory, session, 3, &mut segment);
+    assert!(rt; code == codes::OK && segment.from == 2 && segment.to == 4);
+    let mut room = [0; 1];
+    let mut count = 0;
+    let code = rbbi_c_part(memory, session, 2, 4, &mut room, &mut count);
+    assert!(rt; code == codes::ROOM && room[0] == 0xc3 && count == 2);
+}
+
+/// Puts a lone surrogate, which is refused, and then a pair in place of the U+00E9.
+fn check_utf16(rt: &impl Abort, memory: Memory, session: &mut Handle) {
+    let mut lone = 9;
+    let code = rbbi_c_replace_utf16(memory, session, 2, 2, &[0x61, 0xdc00], &mut lone);
+    assert!(rt; code == codes::LONE && lone == 1);
+    let code = rbbi_c_replace_utf16(memory, session, 2, 2, &[0xd83d, 0xde00], &mut lone);
+    assert!(rt; code == codes::OK);
+    let code = rbbi_c_replace(memory, session, 2, 4, "\u{e9}".as_bytes());
+    assert!(rt; code == codes::OK);
+}
+
 /// Puts `a` in place of the U+00E9.
 fn check_edits(rt: &impl Abort, memory: Memory, session: &mut Handle) {
     let code = rbbi_c_replace(memory, session, 2, 2, b"a");
@@ -131,6 +191,9 @@ fn a_session_outlives_its_tables_handle(rt: HostRuntime) {
     rbbi_c_close(memory, &mut table);
     done(&rt, table);
     check_questions(&rt, memory, &mut session);
+    check_boundaries(&rt, memory, &mut session);
+    check_segment(&rt, memory, &mut session);
+    check_utf16(&rt, memory, &mut session);
     check_edits(&rt, memory, &mut session);
     done(&rt, session);
 }

@@ -14,13 +14,14 @@ from __future__ import annotations
 import ctypes
 import enum
 import threading
+from array import array
 from typing import (Any, Callable, ClassVar, Iterable, Iterator, NamedTuple, Optional, TypeVar,
                     Union)
 
-from ._library import LIBRARY, Answer, CFault, Error, Fault, Handle, checked
+from ._library import (LIBRARY, Answer, CFault, Error, Fault, Handle, LoneSurrogate, checked)
 
-__all__ = ['Answer', 'Error', 'Fault', 'Segment', 'Session', 'Table', 'Text', 'Unit',
-           'unicode_version', 'version']
+__all__ = ['Answer', 'Boundaries', 'Error', 'Fault', 'LoneSurrogate', 'Segment', 'Session', 'Table',
+           'Text', 'Unit', 'unicode_version', 'version']
 
 Text = Union[str, bytes]
 """A text: a `str`, or bytes of UTF-8."""
@@ -49,12 +50,34 @@ class Segment(NamedTuple):
     status: int
 
 
+class Boundaries(NamedTuple):
+    """Boundaries in order, each with its greatest status, as two arrays of the type code `I`."""
+    places: array[int]
+    statuses: array[int]
+
+
+_MOST = (1 << 32) - 1
+"""The greatest place: it lies past the end of every text."""
+
+_ROOM = 1 << 14
+"""How many boundaries one call lists."""
+
+
 def _bytes(text: Text) -> bytes:
     return text.encode() if isinstance(text, str) else text
 
 
+def _units(units: Any) -> tuple[Any, int]:
+    """The 16-bit units of a buffer as C wants them, and how many there are."""
+    view = memoryview(units)
+    if view.nbytes % 2:
+        raise ValueError('UTF-16 has an even number of bytes')
+    count = view.nbytes // 2
+    return (ctypes.c_uint16 * count).from_buffer_copy(view), count
+
+
 def _number(number: int) -> int:
-    if not 0 <= number < 1 << 32:
+    if not 0 <= number <= _MOST:
         raise ValueError('a place and a number are from 0 to 4294967295')
     return number
 
@@ -157,6 +180,14 @@ class Table(_Closing):
         """A session over a text, with places in a unit."""
         return Session(self, text, unit)
 
+    def session_utf16(self, units: Any, unit: Unit = Unit.UTF16) -> Session:
+        """A session over a text in UTF-16, of this machine's byte order, with places in a unit.
+
+        `units` is a buffer: an `array` of the type code `H`, or bytes. Raises `LoneSurrogate` where
+        a surrogate is in no pair.
+        """
+        return Session._over_utf16(self, units, unit)
+
 
 class Session(_Closing):
     """A text with a table and a cursor, which begins at 0.
@@ -168,12 +199,26 @@ class Session(_Closing):
 
     def __init__(self, table: Table, text: Text, unit: Unit = Unit.CHARS) -> None:
         """Opens a session over a text. Raises `Error` where it has over 16,777,216 characters."""
-        super().__init__()
-        self._place = ctypes.c_uint32()
-        self._place_ref = ctypes.byref(self._place)
+        self._begin()
         text = _bytes(text)
         with table._lock:
             checked(LIBRARY.rbbi_session_open(self._ref, table._ref, text, len(text), unit))
+
+    @classmethod
+    def _over_utf16(cls, table: Table, units: Any, unit: Unit) -> Session:
+        """A session over a text in UTF-16."""
+        (room, count), lone, session = _units(units), ctypes.c_uint32(), cls.__new__(cls)
+        session._begin()
+        with table._lock:
+            answer = LIBRARY.rbbi_session_open_utf16(session._ref, table._ref, room, count, unit,
+                                                     ctypes.byref(lone))
+        checked(answer, lone=lone.value)
+        return session
+
+    def _begin(self) -> None:
+        _Closing.__init__(self)
+        self._place = ctypes.c_uint32()
+        self._place_ref = ctypes.byref(self._place)
 
     def _asked(self, call: Callable[..., int], *numbers: int) -> Optional[int]:
         """The number that a call answers, or None where there is no such boundary."""
@@ -251,6 +296,78 @@ class Session(_Closing):
         with self._lock:
             checked(LIBRARY.rbbi_session_replace(self._ref, _number(at), _number(remove), insert,
                                                  len(insert)))
+
+    def replace_utf16(self, at: int, remove: int, units: Any) -> None:
+        """Puts a text in UTF-16 in place of `remove` units from `at` on, and the cursor at 0.
+
+        `units` is a buffer, as that of `Table.session_utf16`. Raises `LoneSurrogate` where a
+        surrogate is in no pair, and `Error` as `replace` does.
+        """
+        (room, count), lone = _units(units), ctypes.c_uint32()
+        with self._lock:
+            answer = LIBRARY.rbbi_session_replace_utf16(self._ref, _number(at), _number(remove), room,
+                                                        count, ctypes.byref(lone))
+        checked(answer, lone=lone.value)
+
+    def text(self, start: int = 0, end: Optional[int] = None) -> str:
+        """The text from a place to another, or to its end.
+
+        Raises `Error` where one of them is past the end or inside of a character, or `end` is before
+        `start`.
+        """
+        end = len(self) if end is None else end
+        call, length = LIBRARY.rbbi_session_text, ctypes.c_size_t()
+        start, end = _number(start), _number(end)
+        with self._lock:
+            answer = call(self._ref, start, end, None, 0, ctypes.byref(length))
+            room = ctypes.create_string_buffer(length.value)
+            if answer == Answer.ROOM:
+                answer = call(self._ref, start, end, room, length, ctypes.byref(length))
+        checked(answer)
+        return room.raw.decode()
+
+    def segment(self, place: int) -> Optional[Segment]:
+        """The segment that holds the character after a place, as the word at an editor's cursor.
+
+        None at the end of the text and past it. The session's cursor stays where it is.
+        """
+        numbers = ctypes.c_uint32(), ctypes.c_uint32(), ctypes.c_uint32()
+        with self._lock:
+            answer = LIBRARY.rbbi_session_segment(self._ref, _number(place),
+                                                  *map(ctypes.byref, numbers))
+        if checked(answer) == Answer.DONE:
+            return None
+        return Segment(*(number.value for number in numbers))
+
+    def boundaries(self, start: int = 0, end: int = _MOST) -> Boundaries:
+        """All boundaries after `start`, up to and with `end`. The cursor stays where it is.
+
+        This is the fast way to all boundaries of a text: no call of Python is made for each.
+        """
+        return self._listed(LIBRARY.rbbi_session_boundaries, start, end)
+
+    def boundaries_before(self, start: int = _MOST, end: int = 0) -> Boundaries:
+        """All boundaries before `start`, down to and with `end`, the last one first.
+
+        The cursor stays where it is.
+        """
+        return self._listed(LIBRARY.rbbi_session_boundaries_before, start, end)
+
+    def _listed(self, call: Callable[..., int], start: int, end: int) -> Boundaries:
+        """What a call lists, however often it has to be made."""
+        places, statuses = array('I'), array('I')
+        place_room, status_room = (ctypes.c_uint32 * _ROOM)(), (ctypes.c_uint32 * _ROOM)()
+        count, resume = ctypes.c_size_t(), ctypes.c_uint32(_number(start))
+        end, answer = _number(end), int(Answer.ROOM)
+        with self._lock:
+            while answer == Answer.ROOM:
+                answer = call(self._ref, resume.value, end, place_room, status_room, _ROOM,
+                              ctypes.byref(count), ctypes.byref(resume))
+                if answer in (Answer.OK, Answer.ROOM):
+                    places.frombytes(memoryview(place_room).cast('B')[:4 * count.value])
+                    statuses.frombytes(memoryview(status_room).cast('B')[:4 * count.value])
+        checked(answer)
+        return Boundaries(places, statuses)
 
     def segments(self) -> Iterator[Segment]:
         """Each segment, from the start of the text on. It moves the cursor as it goes."""

@@ -23,6 +23,7 @@ class Answer(enum.IntEnum):
     ROOM = 10
     FAULT = 11
     NAME = 12
+    LONE = 13
 
 
 class Handle(ctypes.Structure):
@@ -70,10 +71,23 @@ class Fault(Error):
         super().__init__(Answer.FAULT, f'{place}: {told}' if place else told)
 
 
-def checked(answer: int, fault: Optional[CFault] = None) -> int:
+class LoneSurrogate(Error):
+    """A text in UTF-16 has a surrogate that is in no pair."""
+
+    at: int
+    """The number of the first such unit, from 0."""
+
+    def __init__(self, at: int) -> None:
+        super().__init__(Answer.LONE, f'unit {at}: {LIBRARY.rbbi_message(Answer.LONE).decode()}')
+        self.at = at
+
+
+def checked(answer: int, fault: Optional[CFault] = None, lone: int = 0) -> int:
     """The answer, if it is no error."""
     if answer == Answer.FAULT and fault is not None:
         raise Fault(fault)
+    if answer == Answer.LONE:
+        raise LoneSurrogate(lone)
     if answer > Answer.DONE:
         raise Error(answer)
     return answer
@@ -101,7 +115,10 @@ def _loaded() -> Any:
         'table_share': [handle, handle],
         'table_write': [handle, room, size, count],
         'session_open': [handle, handle, text, size, flag],
+        'session_open_utf16': [handle, handle, room, size, flag, numbers],
         'session_replace': [handle, number, number, text, size],
+        'session_replace_utf16': [handle, number, number, room, size, numbers],
+        'session_text': [handle, number, number, room, size, count],
         'session_length': [handle, numbers],
         'session_first': [handle, numbers],
         'session_last': [handle, numbers],
@@ -113,6 +130,9 @@ def _loaded() -> Any:
         'session_current': [handle, numbers],
         'session_status': [handle, numbers],
         'session_statuses': [handle, numbers, size, count],
+        'session_boundaries': [handle, number, number, room, room, size, count, numbers],
+        'session_boundaries_before': [handle, number, number, room, room, size, count, numbers],
+        'session_segment': [handle, number, numbers, numbers, numbers],
     }
     for name, types in taken.items():
         call = getattr(library, 'rbbi_' + name)

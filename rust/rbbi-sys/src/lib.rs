@@ -40,6 +40,7 @@ pub const RBBI_MEMORY: c_int = 9;
 pub const RBBI_ROOM: c_int = 10;
 pub const RBBI_FAULT: c_int = 11;
 pub const RBBI_NAME: c_int = 12;
+pub const RBBI_LONE: c_int = 13;
 
 pub const RBBI_CHARS: c_int = 0;
 pub const RBBI_UTF8: c_int = 1;
@@ -92,6 +93,14 @@ extern "C" {
         length: usize,
         unit: c_int,
     ) -> c_int;
+    pub fn rbbi_session_open_utf16(
+        session: *mut rbbi_handle,
+        table: *mut rbbi_handle,
+        text: *const u16,
+        length: usize,
+        unit: c_int,
+        lone: *mut u32,
+    ) -> c_int;
     pub fn rbbi_session_close(session: *mut rbbi_handle);
     pub fn rbbi_session_replace(
         session: *mut rbbi_handle,
@@ -99,6 +108,22 @@ extern "C" {
         remove: u32,
         insert: *const c_char,
         length: usize,
+    ) -> c_int;
+    pub fn rbbi_session_replace_utf16(
+        session: *mut rbbi_handle,
+        at: u32,
+        remove: u32,
+        insert: *const u16,
+        length: usize,
+        lone: *mut u32,
+    ) -> c_int;
+    pub fn rbbi_session_text(
+        session: *mut rbbi_handle,
+        from: u32,
+        to: u32,
+        room: *mut c_char,
+        size: usize,
+        length: *mut usize,
     ) -> c_int;
     pub fn rbbi_session_length(session: *mut rbbi_handle, length: *mut u32) -> c_int;
     pub fn rbbi_session_first(session: *mut rbbi_handle, place: *mut u32) -> c_int;
@@ -115,5 +140,32 @@ extern "C" {
         room: *mut u32,
         size: usize,
         count: *mut usize,
+    ) -> c_int;
+    pub fn rbbi_session_boundaries(
+        session: *mut rbbi_handle,
+        from: u32,
+        to: u32,
+        places: *mut u32,
+        statuses: *mut u32,
+        room: usize,
+        count: *mut usize,
+        resume: *mut u32,
+    ) -> c_int;
+    pub fn rbbi_session_boundaries_before(
+        session: *mut rbbi_handle,
+        from: u32,
+        to: u32,
+        places: *mut u32,
+        statuses: *mut u32,
+        room: usize,
+        count: *mut usize,
+        resume: *mut u32,
+    ) -> c_int;
+    pub fn rbbi_session_segment(
+        session: *mut rbbi_handle,
+        at: u32,
+        from: *mut u32,
+        to: *mut u32,
+        status: *mut u32,
     ) -> c_int;
 }

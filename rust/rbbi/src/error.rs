@@ -46,6 +46,8 @@ pub enum Error {
     Inside,
     /// A text would have more than 16,777,216 characters, or a file is too long.
     TooLong,
+    /// A surrogate of a text in UTF-16 is in no pair: the number of the first such unit.
+    Lone(u32),
     /// Memory ran out.
     Memory,
     /// Another answer of the library, by its number in `rbbi.h`.
@@ -75,6 +77,7 @@ impl fmt::Display for Error {
             Error::Outside => rbbi_sys::RBBI_OUTSIDE,
             Error::Inside => rbbi_sys::RBBI_INSIDE,
             Error::TooLong => rbbi_sys::RBBI_TOO_LONG,
+            Error::Lone(_) => rbbi_sys::RBBI_LONE,
             Error::Memory => rbbi_sys::RBBI_MEMORY,
             Error::Answer(answer) => *answer,
         };
@@ -90,6 +93,15 @@ pub(crate) fn checked(answer: c_int) -> Result<(), Error> {
     match answer {
         rbbi_sys::RBBI_OK | rbbi_sys::RBBI_DONE => Ok(()),
         _ => Err(Error::of(answer)),
+    }
+}
+
+/// Refuses an answer that is an error, of a call that takes UTF-16 and may report a lone surrogate.
+pub(crate) fn checked_utf16(call: impl FnOnce(*mut u32) -> c_int) -> Result<(), Error> {
+    let mut lone = 0;
+    match call(&mut lone) {
+        rbbi_sys::RBBI_LONE => Err(Error::Lone(lone)),
+        answer => checked(answer),
     }
 }
 

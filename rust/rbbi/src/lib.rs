@@ -10,7 +10,7 @@
 //! let ends: Vec<u32> = session.segments().map(|segment| segment.end).collect();
 //! assert_eq!(ends, [5, 6, 10, 11]);
 //! session.replace(3, 1, "no")?; // the user typed
-//! assert_eq!(session.following(4), Some(6));
+//! assert_eq!(session.segment(4).map(|word| word.end), Some(6));
 //! # Ok(())
 //! # }
 //! ```
@@ -23,7 +23,7 @@ mod session;
 mod table;
 
 pub use error::{Error, Fault};
-pub use session::{Segment, Segments, Session, Unit};
+pub use session::{Boundaries, Chunks, Segment, Segments, Session, Unit};
 pub use table::{Files, Table};
 
 use std::ffi::{c_char, CStr};

@@ -1,5 +1,5 @@
 //! A text with a table and a cursor.
-use crate::error::{checked, Error};
+use crate::error::{checked, checked_utf16, Error};
 use rbbi_sys::{rbbi_handle, RBBI_INIT, RBBI_OK, RBBI_ROOM};
 use std::ffi::c_int;
 
@@ -50,6 +50,22 @@ impl Session {
         checked(unsafe {
             let handle = &mut session.handle;
             rbbi_sys::rbbi_session_open(handle, table, text, length, unit as c_int)
+        })?;
+        Ok(session)
+    }
+
+    /// Opens one over a text in UTF-16.
+    pub(crate) fn open_utf16(
+        table: *mut rbbi_handle,
+        text: &[u16],
+        unit: Unit,
+    ) -> Result<Session, Error> {
+        let mut session = Session { handle: RBBI_INIT };
+        let (units, length) = (text.as_ptr(), text.len());
+        // SAFETY: as in `open`.
+        checked_utf16(|lone| unsafe {
+            let handle = &mut session.handle;
+            rbbi_sys::rbbi_session_open_utf16(handle, table, units, length, unit as c_int, lone)
         })?;
         Ok(session)
     }
@@ -147,6 +163,63 @@ impl Session {
         })
     }
 
+    /// Puts a text in UTF-16 in place of `remove` units from `at` on, and the cursor at 0.
+    ///
+    /// Refuses `Lone` where a surrogate is in no pair, and the rest as [`Session::replace`] does.
+    pub fn replace_utf16(&mut self, at: u32, remove: u32, insert: &[u16]) -> Result<(), Error> {
+        let (units, length) = (insert.as_ptr(), insert.len());
+        // SAFETY: the handle holds a session, and the units are live.
+        checked_utf16(|lone| unsafe {
+            let handle = &mut self.handle;
+            rbbi_sys::rbbi_session_replace_utf16(handle, at, remove, units, length, lone)
+        })
+    }
+
+    /// The text from a place to another.
+    ///
+    /// Refuses `Outside` where `to` is past the end or before `from`, and `Inside` where one of them
+    /// is inside of a character.
+    pub fn text(&mut self, from: u32, to: u32) -> Result<String, Error> {
+        let (mut bytes, mut length) = (Vec::new(), 0);
+        loop {
+            let room: *mut u8 = bytes.as_mut_ptr();
+            // SAFETY: the handle holds a session, and the room has so many bytes.
+            let answer = unsafe {
+                let (handle, size) = (&mut self.handle, bytes.len());
+                rbbi_sys::rbbi_session_text(handle, from, to, room.cast(), size, &mut length)
+            };
+            if answer != RBBI_ROOM {
+                checked(answer)?;
+                return Ok(String::from_utf8(bytes).unwrap_or_default());
+            }
+            bytes.resize(length, 0);
+        }
+    }
+
+    /// The segment that holds the character after a place, as the word at an editor's cursor. None
+    /// at the end of the text and past it. The session's cursor stays.
+    pub fn segment(&mut self, place: u32) -> Option<Segment> {
+        let (mut start, mut end, mut status) = (0, 0, 0);
+        // SAFETY: the handle holds a session, and the numbers are live.
+        let answer = unsafe {
+            let handle = &mut self.handle;
+            rbbi_sys::rbbi_session_segment(handle, place, &mut start, &mut end, &mut status)
+        };
+        (answer == RBBI_OK).then_some(Segment { start, end, status })
+    }
+
+    /// The boundaries after `from`, up to and with `to`, in order, some thousand at a time. The
+    /// session's cursor stays. This is the fast way to many boundaries.
+    pub fn boundaries(&mut self, from: u32, to: u32) -> Chunks<'_> {
+        Chunks::over(self, rbbi_sys::rbbi_session_boundaries, from, to)
+    }
+
+    /// The boundaries before `from`, down to and with `to`, the last one first, some thousand at a
+    /// time. The session's cursor stays.
+    pub fn boundaries_before(&mut self, from: u32, to: u32) -> Chunks<'_> {
+        Chunks::over(self, rbbi_sys::rbbi_session_boundaries_before, from, to)
+    }
+
     /// Each segment, from the start of the text on. It moves the cursor as it goes.
     pub fn segments(&mut self) -> Segments<'_> {
         let start = self.first();
@@ -183,5 +256,79 @@ impl Iterator for Segments<'_> {
             end,
             status: self.session.status(),
         })
+    }
+}
+
+type Lists = unsafe extern "C" fn(
+    *mut rbbi_handle,
+    u32,
+    u32,
+    *mut u32,
+    *mut u32,
+    usize,
+    *mut usize,
+    *mut u32,
+) -> c_int;
+
+/// Boundaries, each with its greatest status.
+#[derive(Clone, Debug, Default, PartialEq, Eq)]
+pub struct Boundaries {
+    /// Where they are.
+    pub places: Vec<u32>,
+    /// The greatest status of each.
+    pub statuses: Vec<u32>,
+}
+
+/// How many boundaries a chunk has at most.
+const CHUNK: usize = 4096;
+
+/// Boundaries within a range, in chunks. No chunk is empty.
+#[derive(Debug)]
+pub struct Chunks<'a> {
+    session: &'a mut Session,
+    call: Lists,
+    from: u32,
+    to: u32,
+    more: bool,
+}
+
+impl Chunks<'_> {
+    fn over(session: &mut Session, call: Lists, from: u32, to: u32) -> Chunks<'_> {
+        Chunks {
+            session,
+            call,
+            from,
+            to,
+            more: true,
+        }
+    }
+}
+
+impl Iterator for Chunks<'_> {
+    type Item = Boundaries;
+
+    fn next(&mut self) -> Option<Boundaries> {
+        if !self.more {
+            return None;
+        }
+        let (mut places, mut statuses) = (vec![0; CHUNK], vec![0; CHUNK]);
+        let mut count = 0;
+        // SAFETY: the handle holds a session, and both rooms have so many numbers.
+        let answer = unsafe {
+            (self.call)(
+                &mut self.session.handle,
+                self.from,
+                self.to,
+                places.as_mut_ptr(),
+                statuses.as_mut_ptr(),
+                CHUNK,
+                &mut count,
+                &mut self.from,
+            )
+        };
+        self.more = answer == RBBI_ROOM;
+        places.truncate(count);
+        statuses.truncate(count);
+        (count > 0).then_some(Boundaries { places, statuses })
     }
 }

@@ -144,6 +144,13 @@ impl Table {
     pub fn session(&self, text: &str, unit: Unit) -> Result<Session, Error> {
         Session::open(self.handle.get(), text, unit)
     }
+
+    /// A session over a text in UTF-16, with places in a unit. The cursor is at 0.
+    ///
+    /// Refuses `Lone` where a surrogate is in no pair, and `TooLong` as [`Table::session`] does.
+    pub fn session_utf16(&self, text: &[u16], unit: Unit) -> Result<Session, Error> {
+        Session::open_utf16(self.handle.get(), text, unit)
+    }
 }
 
 impl Drop for Table {

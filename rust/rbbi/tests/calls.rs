@@ -64,6 +64,66 @@ fn each_question_moves_the_cursor() {
 }
 
 #[test]
+fn boundaries_are_those_that_next_gives() {
+    let text = "can't \u{e4}32 \u{1f600}".repeat(3000);
+    for unit in [Unit::Chars, Unit::Utf8, Unit::Utf16] {
+        let mut session = opened(&text, unit);
+        let segments: Vec<Segment> = session.segments().collect();
+        session.following(7);
+        let cursor = session.current();
+        let (mut places, mut statuses) = (Vec::new(), Vec::new());
+        for chunk in session.boundaries(0, u32::MAX) {
+            places.extend(chunk.places);
+            statuses.extend(chunk.statuses);
+        }
+        assert!(places.iter().eq(segments.iter().map(|segment| &segment.end)));
+        assert!(statuses.iter().eq(segments.iter().map(|segment| &segment.status)));
+        let back: Vec<u32> = session
+            .boundaries_before(u32::MAX, 1)
+            .flat_map(|chunk| chunk.places)
+            .collect();
+        assert!(back.iter().eq(places.iter().rev()));
+        assert_eq!(session.current(), cursor);
+        assert_eq!(session.boundaries(5, 5).next(), None);
+    }
+}
+
+#[test]
+fn the_segment_at_a_place_leaves_the_cursor() {
+    let mut session = opened("can't 32", Unit::Utf8);
+    session.next();
+    let word = Segment {
+        start: 0,
+        end: 5,
+        status: 200,
+    };
+    assert_eq!(session.segment(4), Some(word));
+    assert_eq!((session.segment(8), session.current()), (None, 5));
+}
+
+#[test]
+fn text_is_read_back() {
+    let mut session = opened("a\u{1f600}b", Unit::Utf16);
+    assert_eq!(session.text(1, 3).as_deref(), Ok("\u{1f600}"));
+    assert_eq!(session.text(0, 5), Err(Error::Outside));
+    assert_eq!(session.text(3, 1), Err(Error::Outside));
+    assert_eq!(session.text(0, 2), Err(Error::Inside));
+}
+
+#[test]
+fn utf16_is_taken_and_lone_surrogates_are_refused() {
+    let table = Table::compile(RULES).unwrap();
+    let units: Vec<u16> = "a\u{1f600}b".encode_utf16().collect();
+    let mut session = table.session_utf16(&units, Unit::Utf16).unwrap();
+    assert_eq!((session.length(), session.text(0, 4).as_deref()), (4, Ok("a\u{1f600}b")));
+    session.replace_utf16(1, 2, &[0x63]).unwrap();
+    assert_eq!(session.replace_utf16(0, 0, &[0x61, 0xdc00]), Err(Error::Lone(1)));
+    assert_eq!(session.text(0, 3).as_deref(), Ok("acb"));
+    let refused = table.session_utf16(&[0x61, 0xd83d, 0x63], Unit::Utf8);
+    assert_eq!(refused.unwrap_err(), Error::Lone(1));
+}
+
+#[test]
 fn edits_answer_as_a_new_session_over_the_new_text() {
     let mut text = "ab'c 12 \u{e4}\u{1f600}".repeat(20);
     let mut session = opened(&text, Unit::Utf8);

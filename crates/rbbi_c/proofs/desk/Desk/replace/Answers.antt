@@ -10,6 +10,8 @@ pub invariant_of-desk : goal.invariant_of-desk
 invariant_of-desk g c =
     let was = resumed-as c.self.inside.unit c.self.inside.paused c.table.ensures c.resume-session.ensures in
     let kept = edited-keeps c.resume-session.result c.args.at c.args.remove (chars c.args.insert.now) c.replace-edited.result c.replace-edited.new.self
-    c.args.steps.now c.replace-edited.new.steps c.replace-edited.ensures in
-    subst (λ (t : Table). IsPausedBy t c.pause-paused.result) (ap (λ (s : UnitSetting). s.table) kept ∙ ap (λ (s : UnitSession). s.asked.table) was)
-    c.pause-paused.ensures.by_table
+    c.args.steps.now c.replace-edited.new.steps c.replace-edited.ensures in (
+      subst (λ (t : Table). IsPausedBy t c.pause-paused.result) (ap (λ (s : UnitSetting). s.table) kept ∙ ap (λ (s : UnitSession). s.asked.table) was)
+          c.pause-paused.ensures.by_table,
+      c.self.invariant.1,
+    )
