@@ -466,6 +466,30 @@ def nexts(bench):
     yield from far(bench)
 
 
+def kit(bench):
+    """`Table::next` from boundary to boundary, beside the iterators of the kit's `unicode_segmentation`: the
+    rule files of UAX #29 on each text, in memory. Both are proved. Ours are of 15.0, the kit's of 18.0."""
+    ratios = []
+    for name in ('grapheme', 'word', 'sentence'):
+        table = table_file(bench, name)
+        for kind in inputs.TEXTS:
+            text = inputs.make_text(bench.folder, kind, ONE_MILLION)
+            line = Line(f'`Table::next`, {name}.rules, {kind}, 1 M, beside `unicode_segmentation`',
+                        target='3 times it')
+            line.verdict = (bench.lacking_part(['nexts', table, '0', text])
+                            or bench.lacking_part(['kit', text, '0', name]))
+            if not line.verdict:
+                ours, _ = least_round(bench, ['nexts', table], [text])
+                theirs, _ = least_round(bench, ['kit', text], [name])
+                ratios.append(theirs / ours)
+                line.rate, line.ratio = rate_text(ONE_MILLION / ours), f'{theirs / ours:.2f}'
+                line.verdict = 'met' if theirs / ours >= 3 else f'{theirs / ours:.2f} times'
+            yield line
+    if ratios:
+        mean = math.exp(sum(map(math.log, ratios)) / len(ratios))
+        yield Line('the geometric mean of these', ratio=f'{mean:.2f}')
+
+
 def far(bench):
     """`next` through flags, of which no pair of categories is safe: the time grows as the count."""
     path, props, _ = bench.rules('grapheme')
@@ -551,10 +575,10 @@ def scanning(bench):
 
 
 GROUPS = [start, texts, printing, compiling, front, limits, tables, loop, sessions, questions, units,
-          segment_units, filters, same, tally, nexts, tests, demo, parts]
+          segment_units, filters, same, tally, nexts, kit, tests, demo, parts]
 
 # The groups that don't run the program that is measured.
 WITHOUT_PROGRAM = [segment_units, parts]
 
 # The groups that want the program of single calls.
-OF_PARTS = [loop, nexts, parts]
+OF_PARTS = [loop, nexts, kit, parts]

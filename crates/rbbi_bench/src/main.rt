@@ -7,12 +7,16 @@
 ghost use Rattle.std.specs.Prelude.{◌≡◌, ◌<◌, ◌≤◌, length, IfSome};
 ghost use Rattle.rbbi_text.specs.Bytes.{most_bytes};
 
+mod kit;
 mod parts;
 mod rules;
 
-use parts::{measure_categories, measure_nexts, measure_places, measure_positions, measure_scan};
+use kit::measure_kit;
+use parts::{measure_categories, measure_nexts, measure_places, measure_positions};
+use rbbi_file::read_table;
 use rbbi_io::{Files, RealFiles, words};
 use rbbi_text::{MOST_BYTES, Raw, Steps};
+use rules::table_of;
 use std::alloc::Global;
 use std::io;
 use std::marker::Brand;
@@ -26,10 +30,7 @@ fn read<R: std::rt::Files + Alloc>(
 ) -> Option<Raw>
     ensures { IfSome result (λ bytes. length bytes ≤ most_bytes) }
 {
-    match files.read(alloc, name, MOST_BYTES as u64) {
-        Ok(bytes) => Some(bytes),
-        Err(_) => None,
-    }
+    files.read(alloc, name, MOST_BYTES as u64).ok()
 }
 
 /// Makes the call that the arguments ask for, with a counter of its own.
@@ -53,12 +54,14 @@ fn run<L: Ledger>(rt: &HostRuntime, words: &Vec<String>, blank: Blank) -> Option
         }
         "nexts" => {
             let text = read(alloc, &mut files, words.get(3)?.as_str())?;
-            let by_pieces = words.len() > 4;
-            measure_nexts(alloc, &file, &text, by_pieces, rounds, &mut steps)
+            let table = read_table(alloc, file.bytes(&mut steps)).ok()?;
+            measure_nexts(alloc, &table, &text, words.len() > 4, rounds, &mut steps)
         }
+        "kit" => measure_kit(file.bytes(&mut steps), words.get(3)?.as_str(), rounds),
         "scan" => {
             let text = read(alloc, &mut files, words.get(3)?.as_str())?;
-            measure_scan(alloc, &file, &text, rounds, &mut steps)
+            let table = table_of(alloc, file.bytes(&mut steps))?;
+            measure_nexts(alloc, &table, &text, false, rounds, &mut steps)
         }
         _ => None,
     }

@@ -3,9 +3,8 @@
 ghost use Rattle.std.specs.Prelude.{◌≡◌, ◌<◌, ◌≤◌, length, IfSome};
 ghost use Rattle.rbbi_text.specs.Bytes.{most_bytes};
 
-use crate::rules::{categories_of, rules_of, table_of};
+use crate::rules::{categories_of, rules_of};
 use rbbi_cats::partition;
-use rbbi_file::read_table;
 use rbbi_positions::positions;
 use rbbi_table::{FrontPlaces, Table};
 use rbbi_text::{Chars, EditText, Pieces, PlainText, Raw, Steps};
@@ -19,10 +18,7 @@ pub(crate) fn measure_categories(alloc: Global, bytes: &[u8], rounds: u32) -> Op
     let rules = rules_of(alloc, bytes)?;
     let mut count = 0;
     for _ in 0..rounds {
-        let Ok(cats) = partition(alloc, &rules) else {
-            return None;
-        };
-        count = u64::from(cats.count());
+        count = u64::from(partition(alloc, &rules).ok()?.count());
     }
     Some(count)
 }
@@ -34,10 +30,7 @@ pub(crate) fn measure_positions(alloc: Global, bytes: &[u8], rounds: u32) -> Opt
     let (rules, cats) = categories_of(alloc, bytes)?;
     let mut count = 0;
     for _ in 0..rounds {
-        let Ok(marks) = positions(alloc, &rules, &cats) else {
-            return None;
-        };
-        count = u64::from(marks.leaves());
+        count = u64::from(positions(alloc, &rules, &cats).ok()?.leaves());
     }
     Some(count)
 }
@@ -71,9 +64,7 @@ fn count_again<T: Chars, L: Ledger>(
     rounds: u32,
     steps: &mut Steps<L>,
 ) -> Option<u64> {
-    let Ok(mut marks) = FrontPlaces::new(alloc, table) else {
-        return None;
-    };
+    let mut marks = FrontPlaces::new(alloc, table).ok()?;
     let mut count = 0;
     for _ in 0..rounds {
         count = count_boundaries(table, text, &mut marks, steps);
@@ -81,51 +72,24 @@ fn count_again<T: Chars, L: Ledger>(
     Some(count)
 }
 
-/// All boundaries of a text by the table of a rule file, which is made once, and how many there
-/// are.
-pub(crate) fn measure_scan<L: Ledger>(
-    alloc: Global,
-    file: &Raw,
-    text: &Raw,
-    rounds: u32,
-    steps: &mut Steps<L>,
-) -> Option<u64>
-    requires rules { length file.now ≤ most_bytes }
-    requires text { length text.now ≤ most_bytes }
-{
-    let table = table_of(alloc, file.bytes(steps))?;
-    let Ok(text) = PlainText::from_raw(alloc, text) else {
-        return None;
-    };
-    count_again(alloc, &table, &text, rounds, steps)
-}
-
-/// All boundaries of a text by the table of a table file, which is read once, and how many there
-/// are. The text is in one list, or by pieces.
+/// All boundaries of a text by a table, and how many there are. The text is in one list, or by
+/// pieces.
 pub(crate) fn measure_nexts<L: Ledger>(
     alloc: Global,
-    file: &Raw,
+    table: &Table,
     text: &Raw,
     by_pieces: bool,
     rounds: u32,
     steps: &mut Steps<L>,
 ) -> Option<u64>
-    requires table { length file.now ≤ most_bytes }
-    requires text { length text.now ≤ most_bytes }
+    requires { length text.now ≤ most_bytes }
 {
-    let Ok(table) = read_table(alloc, file.bytes(steps)) else {
-        return None;
-    };
     if by_pieces {
-        let Ok(text) = Pieces::from_raw(alloc, text) else {
-            return None;
-        };
-        return count_again(alloc, &table, &text, rounds, steps);
+        let text = Pieces::from_raw(alloc, text).ok()?;
+        return count_again(alloc, table, &text, rounds, steps);
     }
-    let Ok(text) = PlainText::from_raw(alloc, text) else {
-        return None;
-    };
-    count_again(alloc, &table, &text, rounds, steps)
+    let text = PlainText::from_raw(alloc, text).ok()?;
+    count_again(alloc, table, &text, rounds, steps)
 }
 
 /// The next number of a fixed row of numbers below 2^31.
@@ -144,16 +108,12 @@ fn place_by(number: u64, len: u32) -> u32 {
 fn edited(alloc: Global, file: &Raw, edits: u32) -> Option<Pieces>
     requires { length file.now ≤ most_bytes }
 {
-    let Ok(mut text) = Pieces::from_raw(alloc, file) else {
-        return None;
-    };
+    let mut text = Pieces::from_raw(alloc, file).ok()?;
     let mut state = 0;
     for _ in 0..edits {
         state = draw(state);
         let at = place_by(state, text.len());
-        if text.replace(at, 0, "x").is_err() {
-            return None;
-        }
+        text.replace(at, 0, "x").ok()?;
     }
     Some(text)
 }

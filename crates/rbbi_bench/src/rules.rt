@@ -17,14 +17,8 @@ pub(crate) fn rules_of(alloc: Global, bytes: &[u8]) -> Option<Rules>
     requires { length bytes.now ≤ most_bytes }
     ensures { IfSome result (λ rules. AreLawful (rules_of rules)) }
 {
-    let Ok(text) = rule_text(bytes) else {
-        return None;
-    };
-    let none = PropTable::new(alloc);
-    match read_rules(alloc, text, &none, false) {
-        Ok(rules) => Some(rules),
-        Err(_) => None,
-    }
+    let text = rule_text(bytes).ok()?;
+    read_rules(alloc, text, &PropTable::new(alloc), false).ok()
 }
 
 /// The rules of a rule file with no property files and their categories, or nothing where it has a
@@ -35,22 +29,14 @@ pub(crate) fn categories_of(alloc: Global, bytes: &[u8]) -> Option<(Rules, Categ
         × AreClasses (rules_of found.0) found.1.count found.1.ranges) }
 {
     let rules = rules_of(alloc, bytes)?;
-    match partition(alloc, &rules) {
-        Ok(cats) => Some((rules, cats)),
-        Err(_) => None,
-    }
+    let cats = partition(alloc, &rules).ok()?;
+    Some((rules, cats))
 }
 
 /// The table of a rule file with no property files, or nothing where it has a fault.
 pub(crate) fn table_of(alloc: Global, bytes: &[u8]) -> Option<Table>
     requires { length bytes.now ≤ most_bytes }
 {
-    let Ok(text) = rule_text(bytes) else {
-        return None;
-    };
-    let none = PropTable::new(alloc);
-    match compile(alloc, text, &none, false) {
-        Ok(table) => Some(table),
-        Err(_) => None,
-    }
+    let text = rule_text(bytes).ok()?;
+    compile(alloc, text, &PropTable::new(alloc), false).ok()
 }
