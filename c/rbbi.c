@@ -57,8 +57,8 @@ uint32_t rbbi_c_current(rbbi_session *, uint32_t *);
 uint32_t rbbi_c_status(rbbi_session *, uint32_t *);
 void rbbi_c_close(void *);
 
-/* The version of Unicode of the built-in tables, and what each fault is in a sentence, as bin/build-c
-   writes them; the last fault has no name. */
+/* The version of Unicode of the built-in tables, and what each fault is in a sentence, as
+   bin/make-c-texts prints them; the last fault has no name. */
 extern const char rbbi_built_in_unicode[];
 extern const struct rbbi_built_in_fault {
     const char *name, *sentence;
