@@ -8,7 +8,6 @@
 mod delivery;
 mod files;
 mod inputs;
-mod lines;
 mod name;
 mod output;
 mod position;
@@ -19,7 +18,6 @@ mod words;
 pub use delivery::deliver;
 pub use files::{Role, Source};
 pub use inputs::{Input, Inputs, read_all};
-pub use lines::joined;
 pub use name::Name;
 pub use output::{Output, Written};
 pub use position::place_in;

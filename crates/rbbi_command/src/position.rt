@@ -7,25 +7,18 @@ ghost use Rattle.rbbi_command.specs.Refusals as spec;
 
 use crate::Place;
 
-/// A line and a column, each counted from 1.
-#[derive(Clone, Copy)]
-struct Position {
-    row: u32,
-    column: u32,
-}
-
-/// Where a place of the text stands, in characters from 0. A line ends at LF.
-fn position_of(text: &str, place: u32) -> Position
+/// The line and the column of a place of the text, in characters from 0. A line ends at LF.
+fn position_of(text: &str, place: u32) -> (u32, u32)
     requires { length text.now ≤ most_bytes }
-    ensures row { result.row ≡ row_of (chars text.now) place }
-    ensures column { result.column ≡ column_of (chars text.now) place }
+    ensures row { result.0 ≡ row_of (chars text.now) place }
+    ensures column { result.1 ≡ column_of (chars text.now) place }
 {
     let mut row = 1;
     let mut column = 1;
     let mut left = place;
     for c in text.chars() {
         if left == 0 {
-            return Position { row, column };
+            return (row, column);
         }
         left -= 1;
         if c == '\n' {
@@ -35,18 +28,18 @@ fn position_of(text: &str, place: u32) -> Position
             column += 1;
         }
     }
-    Position { row, column }
+    (row, column)
 }
 
-/// The line and the column of a place of the text, in characters from 0. Without one it is the file
-/// as a whole.
+/// The line and the column of a place of the text, each from 1. Without a place, which is in
+/// characters from 0, it is the file as a whole.
 pub fn place_in(text: &str, place: Option<u32>) -> Place
     requires { length text.now ≤ most_bytes }
     ensures { result ≡ spec.place_in (chars text.now) place }
 {
     match place {
         Some(place) => {
-            let Position { row, column } = position_of(text, place);
+            let (row, column) = position_of(text, place);
             Place::Within { row, column }
         }
         None => Place::Whole,

@@ -3,9 +3,9 @@ ghost use Rattle.std.specs.Prelude.{◌≡◌, ◌⊎◌, IfOk};
 ghost use Rattle.rbbi_command.specs.declared.refusal.Refusal.TheVariants as refusal;
 ghost use Rattle.rbbi_command.specs.declared.refusal.Subject.TheVariants as file;
 ghost use Rattle.rbbi_command.specs.Refusals as spec;
+ghost use Rattle.rbbi_model.specs.Lines.{unread_line};
 
-use crate::{Name, joined};
-use itoa::Buffer;
+use crate::Name;
 use std::alloc::{AllocError, Global};
 
 /// The file that a fault is reported for.
@@ -113,26 +113,21 @@ pub fn file_fault(alloc: Global, name: &str, label: &str, place: Place) -> Refus
 fn fault_line(alloc: Global, name: &str, label: &str, place: Place) -> Result<Vec<u8>, AllocError>
     ensures { IfOk result (λ line. line.items ≡ spec.told_at name.now label.now place) }
 {
-    let name = name.as_bytes();
-    let label = label.as_bytes();
-    let mut numbers = Buffer::new();
-    let mut more_numbers = Buffer::new();
-    match place {
-        Place::Whole => joined(alloc, &[name, b": ", label, b"\n"]),
-        Place::Byte(at) => {
-            let at = numbers.format(at).as_bytes();
-            joined(alloc, &[name, b": ", label, b" ", at, b"\n"])
-        }
-        Place::Row(row) => {
-            let row = numbers.format(row).as_bytes();
-            joined(alloc, &[name, b":", row, b": ", label, b"\n"])
-        }
-        Place::Within { row, column } => {
-            let row = numbers.format(row).as_bytes();
-            let column = more_numbers.format(column).as_bytes();
-            joined(alloc, &[name, b":", row, b":", column, b": ", label, b"\n"])
-        }
-    }
+    let line = match place {
+        Place::Whole => format!(in alloc; "{name}: {label}\n")?,
+        Place::Byte(at) => format!(in alloc; "{name}: {label} {at}\n")?,
+        Place::Row(row) => format!(in alloc; "{name}:{row}: {label}\n")?,
+        Place::Within { row, column } => format!(in alloc; "{name}:{row}:{column}: {label}\n")?,
+    };
+    Ok(line.into_bytes())
+}
+
+/// The line of a file that can't be read.
+fn unread_line(alloc: Global, name: &str) -> Result<Vec<u8>, AllocError>
+    ensures { IfOk result (λ line. line.items ≡ unread_line name.now) }
+{
+    let line = format!(in alloc; "cannot read {name}\n")?;
+    Ok(line.into_bytes())
 }
 
 impl Refusal {
@@ -156,9 +151,7 @@ impl Refusal {
             Refusal::Usage => {
                 Vec::from_slice(alloc, b"usage: rbbi COMMAND [OPTIONS] OPERANDS\n")
             }
-            Refusal::Unread(name) => {
-                joined(alloc, &[b"cannot read ", name.as_str().as_bytes(), b"\n"])
-            }
+            Refusal::Unread(name) => unread_line(alloc, name.as_str()),
             Refusal::Fault {
                 subject,
                 label,

@@ -1,5 +1,5 @@
 //! The parts of a table from bytes.
-ghost use Rattle.std.specs.Prelude.{◌≡◌, ◌+◌, ◌*◌, ◌^◌, ◌<◌, ◌≤◌, ◌++◌, length, drop, IfOk, OnOk};
+ghost use Rattle.std.specs.Prelude.{◌≡◌, ◌+◌, ◌*◌, ◌^◌, ◌<◌, ◌≤◌, ◌++◌, length, IfOk, OnOk};
 ghost use Rattle.std.specs.Prelude.{flat_map};
 ghost use Rattle.std.specs.List.{AllByRecursion};
 ghost use Rattle.rbbi_model.specs.TableFile.{u16 as two_bytes, u32 as four_bytes, range_bytes};
@@ -144,12 +144,4 @@ pub(crate) fn rows_at(
         start += row_size(size, width);
     }
     Ok((rows, cells))
-}
-
-/// All bytes from a place on.
-pub(crate) fn rest_at(alloc: Global, bytes: &[u8], at: usize) -> Result<Vec<u8>, AllocError>
-    requires { at ≤ length bytes.now }
-    ensures { IfOk result (λ rest. rest.items ≡ drop at bytes.now) }
-{
-    bytes[at..].to_vec(alloc)
 }

@@ -12,7 +12,7 @@ ghost use Rattle.rbbi_file.specs.Answers.{HasTablesOf, ReadsTable, ReadsEachSpel
 
 use crate::cells::{cell_size, row_size};
 use crate::numbers::{u16_at, u32_at};
-use crate::parts::{lists_at, ranges_at, rest_at, rows_at};
+use crate::parts::{lists_at, ranges_at, rows_at};
 use crate::{FileErr, MAGIC_1, MAGIC_2};
 use rbbi_table::{ByteList, CellList, NumberLists, Parts, RangeList, RowList, Table, TableErr};
 use std::alloc::{AllocError, Global};
@@ -102,7 +102,7 @@ fn parts_of(alloc: Global, bytes: &[u8]) -> Result<Parts, AllocError>
     let (lists, at) = lists_at(alloc, bytes, at, counts.lists as usize)?;
     let size = cell_size(bytes[7], counts.rows);
     let (heads, cells) = rows_at(alloc, bytes, size, at, rows, width)?;
-    let safe = rest_at(alloc, bytes, at + rows * row_size(size, width))?;
+    let safe = bytes[at + rows * row_size(size, width)..].to_vec(alloc)?;
     Ok(Parts {
         categories: counts.categories,
         slashes: counts.slashes,

@@ -101,38 +101,16 @@ impl MemFiles {
         self.failing.contains(&self.calls)
     }
 
-    /// Keeps the name of a read that failed.
-    fn keep_failed_read(&mut self, name: &str) -> Result<(), AllocError>
-        ensures ok { OnOk result (self.new ≡ record self.old
-            { failed_reads = self.old.failed_reads ++ name.now ∷ [] }) }
-        ensures err { OnErr result (self.new ≡ self.old) }
-    {
-        let name = Raw::new(name.as_bytes().to_vec(self.alloc)?);
-        self.failed_reads.push(name)?;
-        Ok(())
-    }
-
-    /// Keeps the name of a write that failed.
-    fn keep_failed_write(&mut self, name: &str) -> Result<(), AllocError>
-        ensures ok { OnOk result (self.new ≡ record self.old
-            { failed_writes = self.old.failed_writes ++ name.now ∷ [] }) }
-        ensures err { OnErr result (self.new ≡ self.old) }
-    {
-        let name = Raw::new(name.as_bytes().to_vec(self.alloc)?);
-        self.failed_writes.push(name)?;
-        Ok(())
-    }
-
     /// A read, with what it leaves.
     fn read_whole(&mut self, alloc: Global, name: &str, limit: u64) -> Result<Raw, ReadErr>
         ensures { ReadsMemory self.old name.now limit result self.new }
     {
         if self.count_call() {
-            self.keep_failed_read(name)?;
+            keep(self.alloc, &mut self.failed_reads, name)?;
             return Err(ReadErr::Failed);
         }
         let Some(bytes) = self.get(name) else {
-            self.keep_failed_read(name)?;
+            keep(self.alloc, &mut self.failed_reads, name)?;
             return Err(ReadErr::Failed);
         };
         if bytes.len() as u64 > limit {
@@ -146,12 +124,22 @@ impl MemFiles {
         ensures { WritesMemory self.old name.now bytes.now result self.new }
     {
         if self.count_call() {
-            self.keep_failed_write(name)?;
+            keep(self.alloc, &mut self.failed_writes, name)?;
             return Err(WriteErr::Failed);
         }
         self.add(name, bytes)?;
         Ok(())
     }
+}
+
+/// Adds a name to those of failed calls.
+fn keep(alloc: Global, names: &mut Vec<Raw>, name: &str) -> Result<(), AllocError>
+    ensures ok { OnOk result (names.new.items ≡ names.old.items ++ name.now ∷ []) }
+    ensures err { OnErr result (names.new.items ≡ names.old.items) }
+{
+    let name = Raw::new(name.as_bytes().to_vec(alloc)?);
+    names.push(name)?;
+    Ok(())
 }
 
 impl Files for MemFiles {

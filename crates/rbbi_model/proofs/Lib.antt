@@ -6,7 +6,6 @@ pub mod Worked
 pub mod Categories
 pub mod Found
 pub mod Covering
-pub mod Decimals
 pub mod RulesCover
 pub mod Cuts
 pub mod Anchors
@@ -16,7 +15,6 @@ pub mod Local
 pub mod LookAheadNumbers
 pub mod SearchFacts
 pub mod Gives
-pub mod Tries
 pub mod MarksUnique
 pub mod FoundCases
 pub mod SafeSearch

@@ -1,5 +1,5 @@
 -- Answers where places count a unit are those by characters, with offsets for places.
-use Rattle.std.proofs.Common.{◌≡◌, ℕ, ◌+◌, ◌-◌, ◌<◌, ◌≤◌, Bool, true, false, cond, ltb, leb, eqb, List, [], ◌∷◌, Option, Some, None}
+use Rattle.std.proofs.Common.{◌≡◌, ℕ, ◌+◌, ◌<◌, ◌≤◌, Bool, false, cond, ltb, leb, eqb, List, [], ◌∷◌, Option, Some, None}
 use Rattle.std.proofs.Common.{length, take, map}
 use Rattle.std.proofs.Common.{get_or, sum_by, sym, refl, ap, ◌∙◌, ⊎_elim, arith}
 use Rattle.std.specs.Prelude.{option_map, unwrap_or, is_some}

@@ -11,7 +11,6 @@ use Rattle.rbbi_model.specs.Spelling.{Leaf}
 use Rattle.rbbi_model.specs.Rules.{Rule, LooksAhead, IsWordOf}
 use Rattle.rbbi_model.specs.Chains.{IsRule, EndsAt, Word, FrontEndsAt, IsTagAt, AreTags}
 use Rattle.rbbi_model.specs.Boundaries.{LookAheadEndsAt, IsNext, AreBoundaries}
-use Rattle.rbbi_model.specs.Unchained.{NoneChainedInto}
 use Rattle.rbbi_model.specs.Tables.{accept_of, fronts_of, list_of, step, row_along, row_after, category_of}
 use Rattle.rbbi_model.specs.SafePairs.{stored_bit, is_safe}
 use Rattle.rbbi_model.specs.ValidTables.{AreValidRanges, IsValidRow, IsWay, IsValidTable}
@@ -19,7 +18,7 @@ use Rattle.rbbi_model.specs.Searches.{table_boundaries}
 use Rattle.rbbi_model.specs.LeafSets.{EndedBefore}
 use Rattle.rbbi_model.specs.Marks.{no_marks, marks_of, HasFront, AreMarks, HasSameMarks}
 use Rattle.rbbi_model.specs.Compiled.{IsLeast, IsRead, AreAlike, AreClasses, IsCompiled}
-use Rattle.rbbi_model.proofs.Unchained.{unchained}
+use Rattle.rbbi_model.proofs.Unchained.{NoneChainedInto, unchained}
 use Rattle.rbbi_model.proofs.Cuts.{no_bit}
 use Rattle.rbbi_model.proofs.Categories.{one_category, category_within}
 use Rattle.rbbi_model.proofs.Worked.{table_a, ab}
@@ -57,7 +56,7 @@ is_word_a = (λ same. absurd (omega (arith, ap length same)), (97, inl (omega ar
 -- where a rule ends, an `a` stands
 ends_a : (x : List ℕ) (s e number : ℕ) → EndsAt rules_a x s e number → (slice_range x s e ≡ 97 ∷ []) × (s ≤ e) × (e ≤ length x)
 ends_a x s e number ends =
-    let at = (unchained rules_a x s e number none_chained).0 ends in (
+    let at = unchained rules_a x s e number none_chained ends in (
       word_a (slice_range x s e) (subst (λ r. IsWordOf r (slice_range x s e)) (sym (is_rule_a number at.rule at.is_rule).1) at.piece.word),
       at.piece.starts,
       at.piece.ends,

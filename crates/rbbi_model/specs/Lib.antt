@@ -8,7 +8,6 @@ pub mod Chains
 pub mod Boundaries
 pub mod Scripts
 pub mod Lines
-pub mod Unchained
 pub mod Tables
 pub mod SafePairs
 pub mod ValidTables

@@ -1,6 +1,6 @@
 -- Numbers and lines as they are printed. A line is a list of bytes.
-use Rattle.std.specs.Prelude.{◌≡◌, ◌≢◌, ℕ, ◌+◌, ◌*◌, ◌-◌, ◌≤◌, ◌⊎◌, List, [], ◌∷◌, ◌++◌, length, fold, take, count_by, if◌then◌else◌, ◌==◌, codes, encode_utf8}
-use Rattle.std.specs.List.{flat_map, AllByRecursion}
+use Rattle.std.specs.Prelude.{ℕ, ◌+◌, ◌*◌, List, [], ◌∷◌, ◌++◌, length, take, count_by, if◌then◌else◌, ◌==◌, codes, encode_utf8}
+use Rattle.std.specs.List.{flat_map}
 use Rattle.std.specs.Fmt.{decimal}
 use Rattle.rbbi_model.specs.Places.{count_below}
 use Rattle.rbbi_model.specs.Boundaries.{Boundary}
@@ -21,25 +21,6 @@ boundary_line boundary = decimal boundary.at ++ 32 ∷ joined_statuses boundary.
 -- a line for each boundary
 abbrev pub boundary_lines : List Boundary → List ℕ
 boundary_lines boundaries = flat_map boundary_line boundaries
-
--- a decimal digit
-abbrev pub IsDigit : ℕ → Type 0
-IsDigit c = (48 ≤ c) × (c ≤ 57)
-
--- the number that decimal digits spell
-abbrev pub number_of : List ℕ → ℕ
-number_of digits = fold (λ n digit. n * 10 + (digit - 48)) 0 digits
-
--- there is a first digit, and it isn't 0
-abbrev pub BeginsWithoutZero : List ℕ → Type 0
-BeginsWithoutZero [] = ⊥
-BeginsWithoutZero (digit ∷ digits) = digit ≢ 48
-
--- the number in decimal without leading zeros
-pub record IsDecimal (n : ℕ) (digits : List ℕ) : Type 0 where
-  pub each : AllByRecursion IsDigit digits
-  pub value : number_of digits ≡ n
-  pub no_zero : (digits ≡ 48 ∷ []) ⊎ BeginsWithoutZero digits
 
 -- the text, and the end of the line
 abbrev pub line : List ℕ → List ℕ

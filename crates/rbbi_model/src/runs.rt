@@ -1,13 +1,11 @@
-//! Laws of anchors and kept runs.
+//! Laws of anchors.
 
-ghost use Rattle.std.specs.Prelude.{◌≡◌, ℕ, ◌+◌, ◌↔◌, List, Some, IsTrue};
+ghost use Rattle.std.specs.Prelude.{◌≡◌, ℕ, ◌+◌, ◌↔◌, List, IsTrue};
 ghost use Rattle.rbbi_model.specs.Cover.{places};
 ghost use Rattle.rbbi_model.specs.Tables.{Table};
 ghost use Rattle.rbbi_model.specs.ValidTables.{IsValidTable};
 ghost use Rattle.rbbi_model.specs.Searches.{fresh, table_boundaries};
-ghost use Rattle.rbbi_model.specs.Runs.{IsAnchor, is_anchor, low, from_place, Run, IsTrueRun};
-ghost use Rattle.rbbi_model.specs.Runs.{ShowsAfter, ShowsBefore};
-ghost use Rattle.rbbi_model.specs.Answers.{first_after, last_before};
+ghost use Rattle.rbbi_model.specs.Runs.{IsAnchor, is_anchor, low, from_place};
 
 /// In a valid table the stored bits of the safe pairs tell the anchors of a text.
 pub fn anchors_are_stored()
@@ -23,18 +21,4 @@ pub fn anchors_lead_to_the_boundaries()
         (places (from_place (p + 1) (fresh table x p)) ≡ places
         (from_place (p + 1) (table_boundaries table x)))
         × (from_place (low p) (fresh table x p) ≡ from_place (low p) (table_boundaries table x)) }
-{}
-
-/// What a true run shows to be the first boundary past a place is so.
-pub fn shown_boundary_is_the_first_after()
-    ensures { (table : Table) → IsValidTable table → (x : List ℕ) (run : Run) →
-        IsTrueRun table x run →
-        (i a : ℕ) → ShowsAfter run i a → first_after (table_boundaries table x) i ≡ Some a }
-{}
-
-/// What a true run shows to be the last boundary before a place is so.
-pub fn shown_boundary_is_the_last_before()
-    ensures { (table : Table) → IsValidTable table → (x : List ℕ) (run : Run) →
-        IsTrueRun table x run →
-        (i a : ℕ) → ShowsBefore x run i a → last_before (table_boundaries table x) i ≡ Some a }
 {}

@@ -1,9 +1,9 @@
 //! How many segments have a status.
 ghost use Rattle.std.specs.Prelude.{◌≡◌, ◌+◌, ◌^◌, ◌<◌, ◌≤◌, ℕ, length, slice_index, IfOk, OnOk};
 ghost use Rattle.std.specs.Prelude.{sum, ◌==◌, if◌then◌else◌};
-ghost use Rattle.rbbi_model.specs.Places.{largest};
 ghost use Rattle.rbbi_tally.specs.inner.Values.{count_below, sum_at, AreValues};
 
+use rbbi_session::greatest;
 use rbbi_table::Table;
 use std::alloc::{AllocError, Global};
 
@@ -18,17 +18,6 @@ pub struct ValueCount {
 
 /// Values with their counts, by rising values.
 pub type Counts = Vec<ValueCount>;
-
-/// The largest of the statuses, or 0.
-fn largest_of(statuses: &[u32]) -> u32
-    ensures { result ≡ largest statuses.now }
-{
-    let mut most = 0u32;
-    for status in statuses {
-        most = most.max(*status);
-    }
-    most
-}
 
 /// The sum of the counts of the status lists.
 pub(crate) fn total(counts: &[u32]) -> u32
@@ -50,7 +39,7 @@ pub(crate) fn count_of(table: &Table, counts: &[u32], value: u32) -> u32
 {
     let mut sum = 0;
     for list in 0..table.lists() {
-        if largest_of(table.status_list(list)) == value {
+        if greatest(table.status_list(list)) == value {
             sum += counts[list as usize];
         }
     }
@@ -90,7 +79,7 @@ pub(crate) fn values_of(alloc: Global, table: &Table, counts: &[u32]) -> Result<
     for list in 0..table.lists() {
         add(
             &mut pairs,
-            largest_of(table.status_list(list)),
+            greatest(table.status_list(list)),
             counts[list as usize],
         )?;
     }

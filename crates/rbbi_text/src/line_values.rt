@@ -48,23 +48,6 @@ impl<V> Model for Values<V> {
 }
 
 impl<V: Drop> Values<V> {
-    /// No values.
-    fn new(alloc: Global) -> Values<V>
-        ensures { result ≡ [] }
-    {
-        Values {
-            items: Vec::new(alloc),
-        }
-    }
-
-    /// Adds a value at the end, unless memory runs out.
-    fn push(&mut self, value: V) -> Result<(), AllocError>
-        ensures { OnOk result (self.new ≡ self.old ++ value ∷ []) }
-    {
-        self.items.push(value)?;
-        Ok(())
-    }
-
     /// The number of values.
     pub fn len(&self) -> usize
         ensures { result ≡ length self.now }
@@ -103,7 +86,9 @@ fn text_values<V: LineValue>(alloc: Global, text: &str) -> Result<Values<V>, Lin
     requires { length text.now ≤ most_bytes }
     ensures { ReadsTextLines V.IsLine (lines text.now) result }
 {
-    let mut values = Values::new(alloc);
+    let mut values = Values {
+        items: Vec::new(alloc),
+    };
     let mut number = 0;
     for line in text.lines() {
         number += 1;
@@ -123,10 +108,10 @@ fn read_line<V: LineValue>(
 {
     match V::from_line(alloc, line, number)? {
         Line::Skipped => Ok(()),
-        Line::Writes(value) => {
-            values.push(value)?;
-            Ok(())
-        }
+        Line::Writes(value) => match values.items.push(value) {
+            Ok(()) => Ok(()),
+            Err(_) => Err(LinesErr::Memory),
+        },
         Line::Bad => Err(LinesErr::BadLine(number)),
     }
 }

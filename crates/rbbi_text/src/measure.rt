@@ -1,7 +1,7 @@
 //! How much of a unit characters and pieces of a text take.
 ghost use Rattle.std.specs.Prelude.{◌≡◌, ◌<◌, ◌^◌, ℕ, sum_by};
 ghost use Rattle.rbbi_model.specs.declared.unit.Unit.{Unit as TextUnit};
-ghost use Rattle.rbbi_model.specs.declared.unit.Unit.TheVariants.{Utf8, Utf16};
+ghost use Rattle.rbbi_model.specs.declared.unit.Unit.TheVariants.{Utf8};
 ghost use Rattle.rbbi_model.specs.Units.{size_of};
 ghost use Rattle.rbbi_text.specs.inner.Fits.{IsFit};
 
@@ -25,7 +25,7 @@ impl Measure for char {
         match unit {
             Unit::Chars => 1,
             Unit::Utf8 => utf8_size(code),
-            Unit::Utf16 => utf16_size(code),
+            Unit::Utf16 => { if code < 0x10000 { 1 } else { 2 } }
         }
     }
 }
@@ -41,13 +41,6 @@ fn utf8_size(code: u32) -> u32
         return 2;
     }
     if code < 0x10000 { 3 } else { 4 }
-}
-
-/// How many 16-bit units of UTF-16 a character takes.
-fn utf16_size(code: u32) -> u32
-    ensures { result ≡ size_of Utf16 code }
-{
-    if code < 0x10000 { 1 } else { 2 }
 }
 
 /// How much of the unit the items take together.

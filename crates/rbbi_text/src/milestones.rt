@@ -35,16 +35,6 @@ impl Milestones {
         }
     }
 
-    /// Replaces them by those of these items in a unit.
-    pub(crate) fn rebuild<T: Measure>(&mut self, items: &[T], unit: Unit)
-        requires { sum_by (T.weight unit) items.now < 2 ^ 32 }
-        ensures unit { self.new.unit ≡ unit }
-        ensures are { AreMilestones (T.weight unit) items.now self.new.sums.items }
-    {
-        self.unit = unit;
-        self.renew(items, 0);
-    }
-
     /// Makes those again that lie after an item from which on the items are others.
     pub(crate) fn renew<T: Measure>(&mut self, items: &[T], from: usize)
         requires small { sum_by (T.weight self.old.unit) items.now < 2 ^ 32 }

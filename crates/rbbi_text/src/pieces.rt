@@ -172,29 +172,6 @@ fn edit_piece(
     Ok(())
 }
 
-/// Replaces the pieces from `first` to the one before `past` by others, and moves the starts after
-/// them. If memory runs out, the pieces stay as they were.
-fn put_pieces(
-    pieces: &mut Vec<Piece>,
-    starts: &mut Vec<u32>,
-    first: usize,
-    past: usize,
-    new: Vec<Piece>,
-    new_starts: Vec<u32>,
-) -> Result<(), AllocError>
-    requires order { first ≤ past }
-    requires past { past ≤ length pieces.old.items }
-    ensures pieces { OnOk result
-        (pieces.new.items ≡ pieces_with pieces.old.items first past new.items) }
-    ensures starts { OnOk result (starts.new.items ≡ new_starts.items) }
-    ensures err { OnErr result (pieces.new.items ≡ pieces.old.items) }
-    ensures err_starts { OnErr result (starts.new.items ≡ starts.old.items) }
-{
-    let _gone = pieces.splice(first..past, new)?;
-    *starts = new_starts;
-    Ok(())
-}
-
 /// The starts with those of new pieces in place of those from `first` to the one before `past`.
 /// Those after are moved.
 fn starts_with(
@@ -344,7 +321,8 @@ fn edit(
     let middle = make_middle(alloc, pieces, starts, front, insert, end)?;
     let new = cut(alloc, &middle.characters, milestones.unit)?;
     let new_starts = starts_with(alloc, starts, first, middle.past, &new, remove, added)?;
-    put_pieces(pieces, starts, first, middle.past, new, new_starts)?;
+    let _gone = pieces.splice(first..middle.past, new)?;
+    *starts = new_starts;
     milestones.renew(pieces, first);
     Ok(())
 }
@@ -426,7 +404,8 @@ impl UnitText for Pieces {
             Unit::Chars => {}
             Unit::Utf8 | Unit::Utf16 => {
                 measure_in(&mut self.pieces, unit);
-                self.milestones.rebuild(&self.pieces, unit);
+                self.milestones.unit = unit;
+                self.milestones.renew(&self.pieces, 0);
             }
         }
     }

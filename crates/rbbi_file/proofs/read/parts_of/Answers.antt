@@ -1,4 +1,5 @@
-use Rattle.std.proofs.Common.{◌+◌, ◌*◌, drop, refl, sym, ap, ◌∙◌, subst, arith}
+use Rattle.std.proofs.Common.{ℕ, ◌+◌, ◌-◌, ◌*◌, length, drop, length-drop, refl, sym, ap, ◌∙◌, subst, arith}
+use Rattle.std.proofs.lemmas.List.{take_all}
 use Rattle.std.proofs.Math.Facts.{Fits-lt-pow}
 use Rattle.rbbi_model.specs.Tables.{Table}
 use Rattle.rbbi_model.specs.TableFile.{cell_size}
@@ -19,6 +20,7 @@ pub returns : goal.returns
 returns c =
     let counts = c.counts_of-counts.result in
     let are = c.counts_of-counts.ensures in
+    let at : ℕ = c.in_ok-lists.at + counts.rows * c.row_size.result in
     let table : Table = record {
       categories = counts.categories;
       slashes = counts.slashes;
@@ -37,4 +39,6 @@ returns c =
     c.requires.magic c.requires.whole counted
     c.in_ok-ranges.ensures.count c.in_ok-lists.ensures.count c.in_ok-ranges.ensures.stand c.in_ok-ranges.ensures.fit c.in_ok-lists.ensures.lists
     c.in_ok-lists.ensures.end c.in_ok-heads.ensures
-    (c.in_ok-safe.ensures ∙ ap (λ n. drop (c.in_ok-lists.at + counts.rows * n) c.args.bytes.now) c.row_size.ensures.exact))
+    (c.in_ok-safe.ensures.items_if_clones_equal (λ x y same. same)
+    ∙ take_all (length c.args.bytes.now - at) (drop at c.args.bytes.now) (omega (arith, length-drop at c.args.bytes.now))
+    ∙ ap (λ n. drop (c.in_ok-lists.at + counts.rows * n) c.args.bytes.now) c.row_size.ensures.exact))

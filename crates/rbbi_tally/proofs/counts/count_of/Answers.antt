@@ -11,5 +11,5 @@ overflow_add-sum c =
     let short : list < length table.lists = omega (arith, c.lists-list-end.ensures, c.loop-list-test.true) in
     let same = ap largest c.status_list.ensures in
     let grows = count_below_grows table counts c.args.value (list + 1) (length table.lists) (omega arith) in
-    let here = count_below_here table counts list c.args.value (omega (arith, same, c.largest_of.ensures, c.if-largest_of-value.true)) in
+    let here = count_below_here table counts list c.args.value (omega (arith, same, c.greatest.ensures, c.if-greatest-value.true)) in
     omega (arith, c.requires.small)

@@ -6,7 +6,7 @@ use Rattle.rbbi_text.proofs.LineValues.{next_line, all_lines, refused_line}
 use Rattle.rbbi_text.proofs.line_values.text_values.Goals as goal
 
 pub loop-line-init : goal.loop-line-init
-loop-line-init g c = (refl, c.new-values.ensures)
+loop-line-init g c = (refl, c.new.ensures.items)
 
 pub overflow_add-number : goal.overflow_add-number
 overflow_add-number g c =

@@ -1,8 +1,12 @@
 use Rattle.std.proofs.Common.{◌≡◌, ℕ, ◌+◌, ◌-◌, ◌<◌, ◌≤◌, List, [], ◌++◌, length, get_or, take, drop, ap, sym, ◌∙◌, chars, subst, arith, length-take}
+use Rattle.std.specs.List.{splice as spliced}
+use Rattle.std.proofs.lemmas.List.{map-id}
+use Rattle.std.proofs.lemmas.Iterator.{items_from_drains}
+use Rattle.std.proofs.lemmas.Iterator.Adapters.{YieldsList-from_vec}
 use Rattle.rbbi_model.specs.Words.{most_characters}
 use Rattle.rbbi_model.specs.Spelling.{joined}
 use Rattle.rbbi_model.specs.Scripts.{splice}
-use Rattle.rbbi_text.specs.inner.Cuts.{shifted, starts_with_new, AreWholeCut}
+use Rattle.rbbi_text.specs.inner.Cuts.{shifted, starts_with_new, pieces_with, AreWholeCut}
 use Rattle.rbbi_text.specs.Milestones.{AreMilestones}
 use Rattle.rbbi_text.specs.Weighed.{weight_of}
 use Rattle.rbbi_text.proofs.Characters.{IsText-chars}
@@ -111,9 +115,18 @@ starts_with-requires-clause-small c =
       c.requires.cut.whole.text.1,
     )
 
+-- the new pieces are put in place of the old ones
+replaced : (c : After-deref-8) → c.splice.new.self.items
+    ≡ pieces_with c.args.pieces.now.items c.locate-first.result c.in_ok-middle.middle.past c.in_ok-new.new.items
+replaced c =
+    let (s, xs, begins, (u, (t, given, ends)), items, lengths) = c.in_ok-_gone.ensures.items in
+    let road = YieldsList-from_vec c.in_ok-new.new.items begins.0 (omega (arith, begins.1, c.in_ok-new.new.ok.0)) in
+    items ∙ ap (spliced c.args.pieces.now.items c.locate-first.result c.in_ok-middle.middle.past)
+    (sym (map-id xs) ∙ items_from_drains xs (t, given, λ _. (u, ends)) road)
+
 -- the new pieces make the edited text
-made : (c : After-deref-8) → AreWholeCut c.put_pieces.new.pieces.items c.put_pieces.new.starts.items
-    × (joined c.put_pieces.new.pieces.items ≡ splice (joined c.args.pieces.now.items) c.args.place c.args.remove (chars c.args.insert.now))
+made : (c : After-deref-8) → AreWholeCut c.splice.new.self.items c.in_ok-new_starts.new_starts.items
+    × (joined c.splice.new.self.items ≡ splice (joined c.args.pieces.now.items) c.args.place c.args.remove (chars c.args.insert.now))
 made c =
     let r = is_read c.args.pieces.now.items _ c.args.starts.now.items _ c.locate-first.result c.args.place c.index.result.now c.index-2.result.now
     c.requires.cut c.deref.ensures.value c.deref-2.ensures.value c.locate-first.ensures c.index.ensures c.index-2.ensures in
@@ -129,12 +142,12 @@ made c =
     c.in_ok-new_starts.ensures ∙ ap (λ (s : List ℕ). starts_with_new s first past c.deref-7.result.now c.args.remove c.args.added) c.deref-6.ensures.value
     ∙ ap (λ (l : List (List ℕ)). starts_with_new starts first past l c.args.remove c.args.added) c.deref-7.ensures.value
     ∙ ap (λ (n : ℕ). starts_with_new starts first past c.in_ok-new.new.items c.args.remove n) c.requires.added in
-    edit_many ps c.put_pieces.new.pieces.items c.in_ok-new.new.items starts c.put_pieces.new.starts.items
+    edit_many ps c.splice.new.self.items c.in_ok-new.new.items starts c.in_ok-new_starts.new_starts.items
     c.in_ok-middle.middle.characters.items w c.args.place c.args.remove first (c.args.place - c.index.result.now) past c.requires.cut
     (IsText-chars c.args.insert.now c.utf8.insert) few r.found.within r.place (omega (arith, r.start_is, r.found.at_most)) middle
     (c.in_ok-new.ensures.same ∙ c.deref-5.ensures.value) c.in_ok-new.ensures.some c.in_ok-new.ensures.filled
     (λ enough. c.in_ok-new.ensures.all (omega (arith, enough, ap length c.deref-5.ensures.value)))
-    c.in_ok-put_pieces.ensures.pieces (c.in_ok-put_pieces.ensures.starts ∙ starts_are)
+    (replaced c) starts_are
 
 pub returns : goal.returns
 returns c =
@@ -142,7 +155,7 @@ returns c =
     record {
       cut = made'.0;
       text = made'.1;
-      milestones = subst (λ u. AreMilestones (weight_of u) c.put_pieces.new.pieces.items c.renew.new.self.sums.items) (sym c.renew.ensures.unit)
+      milestones = subst (λ u. AreMilestones (weight_of u) c.splice.new.self.items c.renew.new.self.sums.items) (sym c.renew.ensures.unit)
           (subst (λ l. AreMilestones (weight_of c.args.milestones.now.unit) l c.renew.new.self.sums.items) c.deref-8.ensures.value c.renew.ensures.are);
       err = tt;
       err_starts = tt;
@@ -163,4 +176,4 @@ renew-requires-clause-kept c =
     renewed_kept (weight_of c.args.milestones.now.unit) ps c.deref-8.result.now (c.in_ok-new.new.items ++ drop past ps)
     c.args.milestones.now.sums.items first
     c.requires.milestones (omega (arith, c.locate-first.ensures.within, ap length c.deref.ensures.value))
-    (c.deref-8.ensures.value ∙ c.in_ok-put_pieces.ensures.pieces)
+    (c.deref-8.ensures.value ∙ replaced (goal.at.renew-requires-clause-kept c).After-deref-8)
