@@ -1,6 +1,6 @@
 -- Runs at their places in a list.
 use Rattle.std.proofs.Common.{◌≡◌, ℕ, suc, ◌+◌, ◌-◌, ◌<◌, List, [], ◌∷◌, ◌++◌, length, length-append, length-take, take, drop, get_or, sym, ap, ◌∙◌, subst}
-use Rattle.std.proofs.Common.{append_assoc, arith}
+use Rattle.std.proofs.Common.{refl, append_assoc, arith}
 use Rattle.std.specs.List.{AllByRecursion}
 use Rattle.std.proofs.lemmas.List.{take-append-drop, take_more}
 use Rattle.std.proofs.Math.Seq.{drop-cons, take-append_seam, drop-append_seam}
@@ -42,3 +42,8 @@ rotated runs before after run k first whole number is =
     ∙ ap (λ l. l ++ take (length before) (before ++ run ∷ [])) (drop-append_seam before (run ∷ []))
     ∙ ap (λ l. run ∷ l) (take-append_seam before (run ∷ [])) in
     ap (λ l. l ++ drop (k + 1) runs) turned ∙ ap (λ l. (run ∷ before) ++ l) back
+
+-- a run with number 0 is the first
+pub at_front : (before after : List Run) (run : Run) → length before ≡ 0 → before ++ run ∷ after ≡ run ∷ (before ++ after)
+at_front [] after run none = refl
+at_front (r ∷ before) after run none = absurd (omega arith)

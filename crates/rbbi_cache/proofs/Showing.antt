@@ -5,7 +5,7 @@ use Rattle.std.specs.Prelude.{IsTrue}
 use Rattle.std.specs.List.{AllByRecursion}
 use Rattle.std.proofs.lemmas.Bool.{cases_eq}
 use Rattle.std.proofs.lemmas.List.{take-append-drop, take_more, take_all}
-use Rattle.std.proofs.Math.Seq.{drop-cons}
+use Rattle.std.proofs.Math.Seq.{drop-cons, drop-length}
 use Rattle.rbbi_model.specs.Lists.{IsRising}
 use Rattle.rbbi_model.specs.Runs.{Entry, Run, low, EndsUpTo, StartsFrom, ShowsAfter, ShowsBefore}
 use Rattle.rbbi_cache.specs.inner.Shown.{AreUpTo}
@@ -42,6 +42,26 @@ past_one [] i k d rising short high = absurd (omega arith)
 past_one (e ∷ entries) i zero d rising short high =
     (high, all_through (λ f. e.at < f.at) (λ f. i < f.at) (λ f less. omega arith) entries (rises_past e entries rising))
 past_one (e ∷ entries) i (suc k) d rising short high = past_one entries i k d (rising_tail e.at (map (λ f. f.at) entries) rising) (omega arith) high
+
+-- where the last of them isn't past the place, none is
+pub all_up_to : (entries : List Entry) (i : ℕ) (d : Entry) → IsRising (map (λ f. f.at) entries) → 0 < length entries →
+    (get_or entries (length entries - 1) d).at ≤ i → AreUpTo entries i (length entries)
+all_up_to entries i d rising some near = record {
+  within = omega arith;
+  up_to =
+      let one : suc (length entries - 1) ≡ length entries = omega arith in
+      subst (λ n. AllByRecursion (λ f. f.at ≤ i) (take n entries)) one (up_to_one entries i (length entries - 1) d rising (omega arith) near);
+  past = subst (λ l. AllByRecursion (λ f. i < f.at) l) (sym (drop-length entries)) tt;
+}
+
+-- where the first of them is past it, or there is none, all are
+pub all_past : (entries : List Entry) (i : ℕ) (d : Entry) → IsRising (map (λ f. f.at) entries) → 0 < length entries → i < (get_or entries 0 d).at →
+    AreUpTo entries i 0
+all_past entries i d rising some high = record { within = omega arith; up_to = tt; past = past_one entries i 0 d rising some high }
+
+pub none_up_to : (entries : List Entry) (i : ℕ) → length entries ≡ 0 → AreUpTo entries i 0
+none_up_to [] i none = record { within = omega arith; up_to = tt; past = tt }
+none_up_to (e ∷ entries) i none = absurd (omega arith)
 
 -- what ends up to a place has an entry that isn't past it
 has_low : (entries : List Entry) (i : ℕ) → EndsUpTo entries i → AllByRecursion (λ f. i < f.at) entries → ⊥

@@ -59,6 +59,9 @@ pub(crate) fn find_nearest(runs: &[Run], i: u32) -> Option<Shown>
     let mut best: Option<Shown> = None;
     for (k, run) in runs.iter().enumerate() {
         if let Some(entry) = run.last_up_to(i) {
+            if entry.at == i {
+                return Some(Shown { run: k, entry });
+            }
             let is_nearer = match &best {
                 Some(other) => entry.at > other.entry.at,
                 None => true,
@@ -77,6 +80,9 @@ pub(crate) fn to_front(runs: &mut [Run], k: usize)
     ensures { (before after : List model.Run) (run : model.Run) → runs.old ≡ before ++ run ∷ after →
         length before ≡ k → runs.new ≡ run ∷ (before ++ after) }
 {
+    if k == 0 {
+        return;
+    }
     let first = &mut runs[..k + 1];
     first.rotate_right(1);
 }

@@ -17,8 +17,21 @@ pub(crate) fn count_up_to(entries: &[Entry], i: u32) -> usize
     requires { IsRising (map (λ entry. entry.at) entries.now) }
     ensures { AreUpTo entries.now i result }
 {
+    let len = entries.len();
+    if len == 0 {
+        return 0;
+    }
+    // Mostly all are on one side of it.
+    let last = entries[len - 1];
+    if last.at <= i {
+        return len;
+    }
+    let first = entries[0];
+    if first.at > i {
+        return 0;
+    }
     let mut start = 0;
-    let mut end = entries.len();
+    let mut end = len;
     while start < end {
         let middle = start + (end - start) / 2;
         let entry = entries[middle];

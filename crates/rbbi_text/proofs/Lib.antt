@@ -6,3 +6,4 @@ pub mod LineValues
 pub mod Pushed
 pub mod Appended
 pub mod MilestoneLemmas
+pub mod Even

@@ -1,15 +1,18 @@
 //! The pieces that a text is cut into.
 ghost use Rattle.std.specs.Prelude.{◌≡◌, ◌+◌, ◌≤◌, ◌<◌, ◌++◌, length, take, drop, slice_index};
 ghost use Rattle.std.specs.Prelude.{IfOk, OnOk, OnErr, MatchOption, MatchBool, [], ◌∷◌, chars, ◌-◌};
+ghost use Rattle.std.specs.Prelude.{sum_by};
 ghost use Rattle.std.specs.List.{AllByRecursion, splice};
 ghost use Rattle.rbbi_model.specs.Words.{most_characters};
 ghost use Rattle.rbbi_model.specs.Spelling.{joined};
 ghost use Rattle.rbbi_text.specs.Cuts.{IsFilled, AreFilled, ArePieces};
 ghost use Rattle.rbbi_text.specs.inner.Cuts.{AreSoFar, HaveRoom};
 ghost use Rattle.rbbi_text.specs.Weighed.{weight_of};
+ghost use Rattle.rbbi_text.specs.inner.Fits.{IsFit};
+ghost use Rattle.rbbi_model.specs.Units.{size_of};
 
 use crate::Unit;
-use crate::measure::{Measure, taken};
+use crate::measure::{Fit, Measure, fit_in, taken};
 use crate::plain::{MOST_CHARACTERS, put};
 use std::alloc::{AllocError, Global};
 use std::marker::Model;
@@ -126,6 +129,38 @@ impl Piece {
         ensures { result.now ≡ drop i self.now }
     {
         &self.items[i..]
+    }
+
+    /// How much of a unit the characters before a number take. Mostly each takes one; otherwise
+    /// they are counted from the nearer end.
+    pub(crate) fn taken_before(&self, i: usize, unit: Unit) -> u32
+        requires { i ≤ length self.now }
+        ensures { result ≡ sum_by (size_of unit) (take i self.now) }
+    {
+        let len = self.items.len();
+        let all = self.units(unit);
+        if all as usize == len {
+            return i as u32;
+        }
+        if i > len / 2 {
+            return all - taken(&self.items[i..], unit);
+        }
+        taken(&self.items[..i], unit)
+    }
+
+    /// How many of the characters, from the first on, take at most so much of a unit together.
+    pub(crate) fn fit(&self, unit: Unit, most: u32) -> Fit
+        ensures { IsFit (size_of unit) self.now most result.count result.units }
+    {
+        let len = self.items.len();
+        if self.units(unit) as usize != len {
+            return fit_in(self.items.as_slice(), unit, most);
+        }
+        let count = len.min(most as usize);
+        Fit {
+            count,
+            units: count as u32,
+        }
     }
 
     /// All characters, in order.

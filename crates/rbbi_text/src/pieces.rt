@@ -15,7 +15,7 @@ ghost use Rattle.rbbi_text.specs.Weighed.{weight_of};
 ghost use Rattle.rbbi_text.specs.Indexes.{IsIndex};
 ghost use Rattle.rbbi_text.specs.Answers.{TakesText, ReadsText};
 
-use crate::measure::{Measure, fit_in, total};
+use crate::measure::Measure;
 use crate::milestones::{Milestones, before, find, shift_milestones};
 use crate::piece::{FULL, Piece, QUARTER, cut, pieces_of};
 use crate::places::{character, locate, push_starts, shift};
@@ -353,8 +353,8 @@ fn offset_in(pieces: &[Piece], starts: &[u32], sums: &[u32], unit: Unit, place: 
     ensures { result ≡ offset_of unit (joined pieces.now) place }
 {
     let piece = locate(pieces, starts, place);
-    let front = pieces[piece].before(place - starts[piece] as usize);
-    before(pieces, sums, unit, piece) + total(front, unit)
+    let front = pieces[piece].taken_before(place - starts[piece] as usize, unit);
+    before(pieces, sums, unit, piece) + front
 }
 
 /// The place at an offset in a unit, by its milestones, or the last place before it.
@@ -371,7 +371,7 @@ fn index_in(pieces: &[Piece], starts: &[u32], sums: &[u32], unit: Unit, o: u32) 
             whole: front.units == o,
         };
     }
-    let rest = fit_in(pieces[front.count].as_slice(), unit, o - front.units);
+    let rest = pieces[front.count].fit(unit, o - front.units);
     Index {
         at: starts[front.count] + rest.count as u32,
         whole: front.units + rest.units == o,

@@ -43,7 +43,7 @@ overflow_cast-result-2 c =
     let k : ℕ = c.find-front.result.count in
     let within : k < length ps = omega (arith, c.find-front.ensures.within, c.if-front-pieces.false) in
     let read : c.index-pieces-front.result ≡ get_or ps k [] = get_or_read ps k c.index-pieces-front.result within c.index-pieces-front.is [] in
-    omega (arith, c.fit_in-rest.ensures.within, ap length (c.as_slice.ensures ∙ read), filled_small ps k c.requires.cut.whole.filled)
+    omega (arith, c.fit-rest.ensures.within, ap length read, filled_small ps k c.requires.cut.whole.filled)
 
 pub overflow_add-result-2 : goal.overflow_add-result-2
 overflow_add-result-2 c =
@@ -51,7 +51,7 @@ overflow_add-result-2 c =
     let k : ℕ = c.find-front.result.count in
     let within : k < length ps = omega (arith, c.find-front.ensures.within, c.if-front-pieces.false) in
     let read : c.index-pieces-front.result ≡ get_or ps k [] = get_or_read ps k c.index-pieces-front.result within c.index-pieces-front.is [] in
-    omega (arith, c.fit_in-rest.ensures.within, ap length (c.as_slice.ensures ∙ read), end_small c.args.unit ps c.args.starts.now c.requires.cut k within)
+    omega (arith, c.fit-rest.ensures.within, ap length read, end_small c.args.unit ps c.args.starts.now c.requires.cut k within)
 
 pub returns : goal.returns
 returns c =
@@ -59,5 +59,5 @@ returns c =
     let k : ℕ = c.find-front.result.count in
     let within : k < length ps = omega (arith, c.find-front.ensures.within, c.if-front-pieces.false) in
     let read : c.index-pieces-front.result ≡ get_or ps k [] = get_or_read ps k c.index-pieces-front.result within c.index-pieces-front.is [] in
-    inside_index c.args.unit ps c.args.starts.now c.requires.cut c.args.o k c.find-front.result.units c.fit_in-rest.result.count c.fit_in-rest.result.units
-    c.as_slice.result.now c.find-front.ensures within (c.as_slice.ensures ∙ read) c.fit_in-rest.ensures
+    inside_index c.args.unit ps c.args.starts.now c.requires.cut c.args.o k c.find-front.result.units c.fit-rest.result.count c.fit-rest.result.units
+    c.index-pieces-front.result c.find-front.ensures within read c.fit-rest.ensures
