@@ -73,12 +73,8 @@ pub struct SetLevel {
 /// A set in which another one is being read.
 #[derive(Drop)]
 pub struct OuterSet {
-    /// The place of its bracket.
-    place: u32,
-    negated: bool,
-    /// Its parts, from first to last.
-    parts: Vec<SetPart>,
-    /// How the inner set is joined to them.
+    set: SetLevel,
+    /// How the inner set is joined to its parts.
     join: Join,
 }
 
@@ -282,18 +278,7 @@ impl SetLevel {
             return Err(TreeErr::Syntax(place));
         };
         self.settle()?;
-        let SetLevel {
-            place,
-            negated,
-            parts,
-            ..
-        } = self;
-        Ok(OuterSet {
-            place,
-            negated,
-            parts,
-            join,
-        })
+        Ok(OuterSet { set: self, join })
     }
 
     /// The set that ends with a bracket at this place, which needs no operand before it.
@@ -351,19 +336,8 @@ impl OuterSet {
         ensures { IfOk result (λ s.
             set_level_tree s ≡ set_resumed place (set_tree inner) (outer_set_tree self)) }
     {
-        let OuterSet {
-            place: bracket,
-            negated,
-            mut parts,
-            join,
-        } = self;
-        let item = SetItem::Set(inner);
-        push_lean(&mut parts, SetPart { place, join, item })?;
-        Ok(SetLevel {
-            place: bracket,
-            negated,
-            parts,
-            state: SetState::Operand,
-        })
+        let OuterSet { mut set, join } = self;
+        set.push(place, join, SetItem::Set(inner), SetState::Operand)?;
+        Ok(set)
     }
 }

@@ -13,7 +13,8 @@ set_level_tree s = record { place = s.place; negated = s.negated; parts = revers
 
 -- the outer set that a value stands for
 abbrev pub outer_set_tree : OuterSet → OuterSetTree
-outer_set_tree o = record { place = o.place; negated = o.negated; parts = reverse (map part_tree o.parts.items); join = o.join }
+outer_set_tree o =
+    let s = set_level_tree o.set in record { place = s.place; negated = s.negated; parts = s.parts; join = o.join }
 
 -- what a refusal at a token of this place says of what the machine does: for a fault of syntax, that it is stuck there
 abbrev pub IsStuckAt : {A : Type 0} → ℕ → Option A → TreeErr → Type 0
