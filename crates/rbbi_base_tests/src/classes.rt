@@ -1,9 +1,9 @@
 //! Partitions and sets of classes, by tables of cases by hand.
 use crate::ranges::{LAST, set_of};
+use rbbi_bits::is_set;
 use rbbi_classes::{ClassSet, Division};
 use std::alloc::{AllocError, Global};
 
-mod character_sets;
 mod class_sets;
 mod divisions;
 
@@ -51,7 +51,9 @@ fn are(division: &Division, set: &Result<ClassSet, AllocError>, want: &[(u32, u3
     };
     for span in &ASKED {
         for c in span.0..span.1 {
-            if division.has(set, c) != is_in(want, c) {
+            let class = division.class_at(c);
+            let has = c <= LAST && is_set(set.word(class / 64), class % 64);
+            if has != is_in(want, c) {
                 return false;
             }
         }

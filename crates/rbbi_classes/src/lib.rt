@@ -1,20 +1,19 @@
 //! The partition of the code points by given sets, and sets as rows of bits over its classes.
 #![tactic(auto)]
 
-mod character_set;
+mod character;
 mod chunks;
 mod class_members;
 mod class_set;
 mod class_shelf;
 mod division;
 mod layout;
-mod membership;
 mod operation;
 mod pairs;
 mod steps;
 mod word_row;
 
-pub use character_set::{CharacterSet, is_character};
+pub use character::is_character;
 pub use class_set::ClassSet;
 pub use class_shelf::ClassShelf;
 pub use division::Division;

@@ -105,10 +105,7 @@ pub(crate) fn merged(alloc: Global, left: &[Step], right: &[Step]) -> Result<Vec
         passed: 0,
         number: 0,
     };
-    let mut of_right = Walk {
-        passed: 0,
-        number: 0,
-    };
+    let mut of_right = of_left;
     'merge: while of_left.passed < left.len() || of_right.passed < right.len() {
         let start = next_start(left, of_left.passed, right, of_right.passed);
         of_left = walked(left, of_left, start);
