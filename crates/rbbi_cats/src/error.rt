@@ -1,7 +1,7 @@
 //! Why the categories of rules are refused.
 ghost use Rattle.std.specs.Prelude.{◌≡◌, None};
 
-use std::alloc::{AllocError, AllocFailed};
+use std::alloc::AllocError;
 use thiserror::Error;
 
 /// Why the categories of rules are refused.
@@ -16,23 +16,11 @@ pub enum CatsErr {
 }
 
 impl From<AllocError> for CatsErr {
-    ghost use Rattle.std.specs.Prelude.{◌≡◌};
     ghost use Rattle.rbbi_cats.specs.declared.error.CatsErr.TheVariants.{Memory};
 
     ghost from_gives = { λ _ e. e ≡ Memory };
 
     fn from(_e: AllocError) -> CatsErr {
-        CatsErr::Memory
-    }
-}
-
-impl<T: Drop> From<AllocFailed<T>> for CatsErr {
-    ghost use Rattle.std.specs.Prelude.{◌≡◌};
-    ghost use Rattle.rbbi_cats.specs.declared.error.CatsErr.TheVariants.{Memory};
-
-    ghost from_gives = { λ _ e. e ≡ Memory };
-
-    fn from(_e: AllocFailed<T>) -> CatsErr {
         CatsErr::Memory
     }
 }
