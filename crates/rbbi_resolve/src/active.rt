@@ -44,10 +44,7 @@ fn tree_of_rest(
         (option_map (meaning_of_expr (context_of context.now)) (rest_tree rest.now))) }
 {
     match rest {
-        Some(rest) => {
-            let tree = builder.tree_of_expr(alloc, context, leaves, next, rest)?;
-            Ok(Some(tree))
-        }
+        Some(rest) => Ok(Some(builder.tree_of_expr(alloc, context, leaves, next, rest)?)),
         None => Ok(None),
     }
 }
@@ -169,7 +166,7 @@ pub(crate) fn build_rules(alloc: Global, reading: Reading) -> Result<Rules, Allo
     let rules = rules_with_trees(alloc, &context, &leaves, &mut builder)?;
     let Builder { rows, .. } = builder;
     let Classes { division, .. } = classes;
-    let sets = SetList::of_rows(alloc, division, rows)?;
+    let sets = SetList::of_rows(division, rows);
     Ok(Rules::new(rules, sets, counts.leaves.sum, counts.slashes.sum))
 }
 

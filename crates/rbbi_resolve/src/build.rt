@@ -18,7 +18,7 @@ ghost use Rattle.rbbi_resolve.specs.inner.Builders.{Extends, IsReady};
 use crate::context::Context;
 use crate::rules::Tree;
 use crate::summary::count_of;
-use crate::tree::{add_no_tree, in_choice, in_sequence, leaf_of_set, repeat_last};
+use crate::tree::{in_choice, in_sequence, leaf_of_set, repeat_last};
 use rbbi_classes::ClassSet;
 use rbbi_text::Word;
 use rbbi_tree::{Atom, Expr, Item, Seq, Statement, Statements};
@@ -285,14 +285,10 @@ impl Builder {
             trees.new.items) }
     {
         match atom {
-            Atom::Char { .. } | Atom::Any | Atom::Prop { .. } | Atom::Set(_) => {
-                self.add_leaf(context, leaves, next, trees)?;
-                Ok(())
-            }
-            Atom::Quoted(word) => {
-                self.add_word(context, leaves, next, trees, word)?;
-                Ok(())
-            }
+            Atom::Char { .. } | Atom::Any | Atom::Prop { .. } | Atom::Set(_) => Ok(self.add_leaf(
+                context, leaves, next, trees,
+            )?),
+            Atom::Quoted(word) => Ok(self.add_word(context, leaves, next, trees, word)?),
             Atom::Name(name) => match context.variable(name) {
                 Some(variable) => {
                     let inner = Context {
@@ -303,14 +299,12 @@ impl Builder {
                     Ok(())
                 }
                 None => {
-                    add_no_tree(alloc, trees)?;
-                    Ok(())
+                    // A choice of nothing.
+                    let first = trees.len();
+                    Ok(in_choice(trees, first)?)
                 }
             },
-            Atom::Group(inner) => {
-                self.add_expr(alloc, context, leaves, next, trees, inner)?;
-                Ok(())
-            }
+            Atom::Group(inner) => Ok(self.add_expr(alloc, context, leaves, next, trees, inner)?),
         }
     }
 

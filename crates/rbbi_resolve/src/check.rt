@@ -64,7 +64,7 @@ pub(crate) fn check_expr(
         (leaves_of_expr (context_of context.now) (expr_tree expr.now))
         leaves.old.rows.items leaves.new.rows.items) }
 {
-    let mut whole = Summary::never();
+    let mut whole = Summary::flat(0, false);
     for seq in &expr.items {
         let part = check_seq(alloc, context, least, leaves, seq)?;
         whole = whole.or(part);
@@ -95,7 +95,7 @@ fn check_seq(
         (leaves_of_seq (context_of context.now) (seq_tree seq.now))
         leaves.old.rows.items leaves.new.rows.items) }
 {
-    let mut whole = Summary::empty();
+    let mut whole = Summary::flat(0, true);
     for item in &seq.items {
         let part = check_item(alloc, context, least, leaves, item)?;
         whole = whole.then(part);
@@ -159,7 +159,7 @@ fn check_atom(
             let is_bare = *bare && context.quoted_only;
             note_where(least, is_bare, place, FaultKind::BareLiteral);
             leaves.add_character(alloc, context, *c)?;
-            Ok(Summary::leaf())
+            Ok(Summary::flat(1, false))
         }
         Atom::Quoted(word) => {
             leaves.add_word(alloc, context, word)?;
@@ -167,7 +167,7 @@ fn check_atom(
         }
         Atom::Any => {
             leaves.add_any(alloc, context)?;
-            Ok(Summary::leaf())
+            Ok(Summary::flat(1, false))
         }
         Atom::Name(name) => Ok(check_name(context, least, place, name)),
         Atom::Prop {
@@ -176,11 +176,11 @@ fn check_atom(
             value,
         } => {
             check_property(alloc, context, least, leaves, place, *negated, name, value)?;
-            Ok(Summary::leaf())
+            Ok(Summary::flat(1, false))
         }
         Atom::Set(set) => {
             check_set(alloc, context, least, leaves, place, set)?;
-            Ok(Summary::leaf())
+            Ok(Summary::flat(1, false))
         }
         Atom::Group(inner) => {
             let whole = check_expr(alloc, context, least, leaves, inner)?;
@@ -202,7 +202,7 @@ fn check_name(context: &Context, least: &mut Option<Fault>, place: u32, name: &W
         Some(variable) => summary_of(&variable.kind),
         None => {
             note(least, place, FaultKind::Undefined);
-            Summary::never()
+            Summary::flat(0, false)
         }
     }
 }
@@ -215,7 +215,7 @@ fn summary_of(kind: &Kind) -> Summary
         (height_of_variable (Some variable)) }
 {
     match kind {
-        Kind::Set(_) => Summary::leaf(),
+        Kind::Set(_) => Summary::flat(1, false),
         Kind::Expression(summary) => summary.higher(),
     }
 }

@@ -29,10 +29,7 @@ pub(crate) fn collect_statement(
     match statement {
         Statement::Nothing => Ok(()),
         Statement::Control { .. } => Ok(()),
-        Statement::Assign { expr, .. } => {
-            collect_expr(alloc, table, collection, expr)?;
-            Ok(())
-        }
+        Statement::Assign { expr, .. } => Ok(collect_expr(alloc, table, collection, expr)?),
         Statement::Rule { front, rest, .. } => {
             collect_expr(alloc, table, collection, front)?;
             if let Some(rest) = rest {
@@ -92,32 +89,17 @@ fn collect_item(
         (parts_of_item (item_tree item.now))) }
 {
     match &item.atom {
-        Atom::Char { c, .. } => {
-            collection.add_character(alloc, *c)?;
-            Ok(())
-        }
-        Atom::Quoted(word) => {
-            collection.add_word(alloc, word)?;
-            Ok(())
-        }
+        Atom::Char { c, .. } => Ok(collection.add_character(alloc, *c)?),
+        Atom::Quoted(word) => Ok(collection.add_word(alloc, word)?),
         Atom::Any => Ok(()),
         Atom::Name(_) => Ok(()),
         Atom::Prop {
             negated,
             name,
             value,
-        } => {
-            collection.add_property(alloc, table, *negated, name, value)?;
-            Ok(())
-        }
-        Atom::Set(set) => {
-            collect_set(alloc, table, collection, set)?;
-            Ok(())
-        }
-        Atom::Group(inner) => {
-            collect_expr(alloc, table, collection, inner)?;
-            Ok(())
-        }
+        } => Ok(collection.add_property(alloc, table, *negated, name, value)?),
+        Atom::Set(set) => Ok(collect_set(alloc, table, collection, set)?),
+        Atom::Group(inner) => Ok(collect_expr(alloc, table, collection, inner)?),
     }
 }
 
@@ -189,26 +171,14 @@ fn collect_part(
         (part_tree part.now)) }
 {
     match &part.item {
-        SetItem::Char(c) => {
-            collection.add_range(alloc, *c, *c)?;
-            Ok(())
-        }
-        SetItem::Range(first, last) => {
-            collection.add_range(alloc, *first, *last)?;
-            Ok(())
-        }
+        SetItem::Char(c) => Ok(collection.add_range(alloc, *c, *c)?),
+        SetItem::Range(first, last) => Ok(collection.add_range(alloc, *first, *last)?),
         SetItem::Name(_) => Ok(()),
         SetItem::Prop {
             negated,
             name,
             value,
-        } => {
-            collection.add_property(alloc, table, *negated, name, value)?;
-            Ok(())
-        }
-        SetItem::Set(inner) => {
-            collect_set(alloc, table, collection, inner)?;
-            Ok(())
-        }
+        } => Ok(collection.add_property(alloc, table, *negated, name, value)?),
+        SetItem::Set(inner) => Ok(collect_set(alloc, table, collection, inner)?),
     }
 }

@@ -51,10 +51,7 @@ pub(crate) fn check_definition(
     let first = leaves.rows.len();
     let summary = check_expr(alloc, context, least, leaves, expr)?;
     match lone_item(expr) {
-        Some(item) => {
-            let kind = kind_of_atom(context, leaves, first, summary, &item.atom)?;
-            Ok(kind)
-        }
+        Some(item) => Ok(kind_of_atom(context, leaves, first, summary, &item.atom)?),
         None => Ok(Kind::Expression(summary)),
     }
 }

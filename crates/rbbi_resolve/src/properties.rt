@@ -57,8 +57,7 @@ pub(crate) fn keep_once(
     let hash = hash_of(&found);
     if let Some(set) = sets.get(&hash) {
         if are_same(set.as_ref(), &found) {
-            let copy = set.clone()?;
-            return Ok(copy);
+            return Ok(set.clone()?);
         }
     }
     let set = Rc::new(alloc, found)?;

@@ -1,5 +1,5 @@
 //! The active rules of a rule file, with their variables replaced.
-ghost use Rattle.std.specs.Prelude.{◌≡◌, ◌<◌, IfOk, length, map, slice_get, sum_by};
+ghost use Rattle.std.specs.Prelude.{◌≡◌, ◌<◌, length, map, slice_get, sum_by};
 ghost use Rattle.std.specs.Rc.{rc_value};
 ghost use Rattle.rbbi_classes.specs.CharacterSets.{characters_of};
 ghost use Rattle.rbbi_classes.specs.Divisions.{IsDivision};
@@ -7,9 +7,8 @@ ghost use Rattle.rbbi_model.specs.Rules.{leaves_of, look_aheads};
 ghost use Rattle.rbbi_resolve.specs.RuleLists.{rules_of, AreWellFormed, AreCounted};
 ghost use Rattle.rbbi_resolve.specs.SetRows.{AreByClasses};
 
-use rbbi_classes::{CharacterSet, ClassSet, Division};
+use rbbi_classes::{ClassSet, Division};
 use rbbi_tree::Quant;
-use std::alloc::{AllocError, Global};
 use std::marker::Model;
 use std::rc::Rc;
 
@@ -56,43 +55,30 @@ pub struct SetList {
     division: Rc<Division>,
     /// Of each set its classes.
     rows: Vec<ClassSet>,
-    items: Vec<CharacterSet>,
 }
 
 impl Model for SetList {
-    ghost use Rattle.std.specs.Prelude.{List};
+    ghost use Rattle.std.specs.Prelude.{List, map};
     ghost use Rattle.rbbi_model.specs.Ranges.{Range};
 
     ghost Value = { List (List Range) };
 
     ghost use Rattle.std.specs.Rc.{rc_value};
-    ghost use Rattle.rbbi_resolve.specs.SetRows.{AreByClasses};
+    ghost use Rattle.rbbi_classes.specs.CharacterSets.{characters_of};
+    ghost use Rattle.rbbi_classes.specs.Divisions.{IsDivision};
 
-    ghost view = { λ sets. sets.items.items };
+    ghost view = { λ sets. map (characters_of (rc_value sets.division)) sets.rows.items };
 
-    ghost invariant = { λ sets. AreByClasses (rc_value sets.division) sets.rows.items
-        sets.items.items };
+    ghost invariant = { λ sets. IsDivision (rc_value sets.division) };
 }
 
 impl SetList {
     /// The sets with these classes of a partition.
-    pub(crate) fn of_rows(
-        alloc: Global,
-        division: Rc<Division>,
-        rows: Vec<ClassSet>,
-    ) -> Result<SetList, AllocError>
+    pub(crate) fn of_rows(division: Rc<Division>, rows: Vec<ClassSet>) -> SetList
         requires { IsDivision (rc_value division) }
-        ensures { IfOk result (λ sets. sets ≡ map (characters_of (rc_value division)) rows.items) }
+        ensures { result ≡ map (characters_of (rc_value division)) rows.items }
     {
-        let mut items = Vec::new(alloc);
-        for row in &rows {
-            items.push(CharacterSet::of_classes(&division, row)?)?;
-        }
-        Ok(SetList {
-            division,
-            rows,
-            items,
-        })
+        SetList { division, rows }
     }
 
     /// The partition of the code points of which each set has some classes, and of each set the
@@ -108,15 +94,7 @@ impl SetList {
     pub fn len(&self) -> usize
         ensures { result ≡ length self.now }
     {
-        self.items.len()
-    }
-
-    /// The set with this number, from 0.
-    pub fn get(&self, i: usize) -> &CharacterSet
-        requires { i < length self.now }
-        ensures { slice_get self.now i ≡ Some result.now }
-    {
-        &self.items[i]
+        self.rows.len()
     }
 }
 

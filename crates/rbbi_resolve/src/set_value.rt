@@ -96,30 +96,18 @@ fn find_item(
         (parts_of_part (joined place join (set_item_tree item.now)))) }
 {
     match item {
-        SetItem::Char(c) => {
-            find_character(alloc, context.layout(), *c, value)?;
-            Ok(())
-        }
+        SetItem::Char(c) => Ok(find_character(alloc, context.layout(), *c, value)?),
         SetItem::Range(first, last) => {
             find_range(alloc, context.layout(), least, place, *first, *last, value)?;
             Ok(())
         }
-        SetItem::Name(name) => {
-            find_variable(context, least, place, name, value)?;
-            Ok(())
-        }
+        SetItem::Name(name) => Ok(find_variable(context, least, place, name, value)?),
         SetItem::Prop {
             negated,
             name,
             value: word,
-        } => {
-            find_property(alloc, context, least, place, *negated, name, word, value)?;
-            Ok(())
-        }
-        SetItem::Set(inner) => {
-            find_set(alloc, context, least, inner, value)?;
-            Ok(())
-        }
+        } => Ok(find_property(alloc, context, least, place, *negated, name, word, value)?),
+        SetItem::Set(inner) => Ok(find_set(alloc, context, least, inner, value)?),
     }
 }
 
@@ -249,14 +237,10 @@ pub(crate) fn value_of_property(
 {
     let key = key_of(alloc, negated, name, value)?;
     match context.classes.known(key.as_str(), negated, name, value) {
-        Some(set) => {
-            let copy = set.clone()?;
-            Ok(copy)
-        }
+        Some(set) => Ok(set.clone()?),
         None => {
             let found = find(alloc, context.table, negated, name, value)?;
-            let set = divide(alloc, context.layout(), &found)?;
-            Ok(set)
+            Ok(divide(alloc, context.layout(), &found)?)
         }
     }
 }
@@ -295,18 +279,9 @@ fn join_sets(
         → IsClassValue files bounds (joined_to join item_tree left_tree) (Some whole)) }
 {
     match join {
-        Join::Add => {
-            let either = left.union(alloc, item)?;
-            Ok(either)
-        }
-        Join::Both => {
-            let both = left.meet(alloc, &item)?;
-            Ok(both)
-        }
-        Join::Minus => {
-            let rest = left.remove(alloc, &item)?;
-            Ok(rest)
-        }
+        Join::Add => Ok(left.union(alloc, item)?),
+        Join::Both => Ok(left.meet(alloc, &item)?),
+        Join::Minus => Ok(left.remove(alloc, &item)?),
     }
 }
 

@@ -1,5 +1,5 @@
 //! Counts of expressions without expanding them.
-ghost use Rattle.std.specs.Prelude.{◌≡◌, ◌+◌, ◌≤◌, ◌&&◌, ◌||◌, ℕ, Bool, true, false, max, length};
+ghost use Rattle.std.specs.Prelude.{◌≡◌, ◌+◌, ◌≤◌, ◌&&◌, ◌||◌, ℕ, Bool, true, max, length};
 ghost use Rattle.std.specs.Prelude.{if◌then◌else◌};
 ghost use Rattle.rbbi_resolve.specs.inner.Summaries.{IsCapped, Sums, Summarizes, empty_of_quant};
 ghost use Rattle.rbbi_resolve.specs.Expressions.{word_of, height_of_word, height_of_quant};
@@ -48,36 +48,15 @@ fn capped(count: usize) -> u32
 }
 
 impl Summary {
-    /// One leaf.
-    pub(crate) fn leaf() -> Summary
-        ensures { Sums result 1 0 false }
+    /// So many leaves without height, and whether they spell the empty word.
+    pub(crate) fn flat(leaves: u32, spells_empty: bool) -> Summary
+        requires { leaves ≤ 8193 }
+        ensures { Sums result leaves 0 spells_empty }
     {
         Summary {
-            leaves: 1,
+            leaves,
             height: 0,
-            spells_empty: false,
-        }
-    }
-
-    /// No alternative.
-    pub(crate) fn never() -> Summary
-        ensures { Sums result 0 0 false }
-    {
-        Summary {
-            leaves: 0,
-            height: 0,
-            spells_empty: false,
-        }
-    }
-
-    /// The empty word.
-    pub(crate) fn empty() -> Summary
-        ensures { Sums result 0 0 true }
-    {
-        Summary {
-            leaves: 0,
-            height: 0,
-            spells_empty: true,
+            spells_empty,
         }
     }
 

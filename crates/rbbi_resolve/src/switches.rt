@@ -31,31 +31,17 @@ impl Switches {
         ensures { (context : contexts.Context) → AreSwitches self context
             → AreSwitches result (after_control context name.now) }
     {
+        let mut next = self;
         if name == "chain" {
-            return Switches {
-                chained: true,
-                ..self
-            };
+            next.chained = true;
+        } else if name == "quoted_literals_only" {
+            next.quoted_only = true;
+        } else if name == "forward" {
+            next.active = true;
+        } else if ends_active(name) {
+            next.active = false;
         }
-        if name == "quoted_literals_only" {
-            return Switches {
-                quoted_only: true,
-                ..self
-            };
-        }
-        if name == "forward" {
-            return Switches {
-                active: true,
-                ..self
-            };
-        }
-        if ends_active(name) {
-            return Switches {
-                active: false,
-                ..self
-            };
-        }
-        self
+        next
     }
 }
 

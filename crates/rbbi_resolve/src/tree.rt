@@ -1,6 +1,5 @@
 //! Trees of parts.
-ghost use Rattle.std.specs.Prelude.{◌≡◌, ◌<◌, ◌≤◌, List, [], ◌∷◌, ◌++◌, map, OnOk};
-ghost use Rattle.std.specs.Prelude.{vec_len};
+ghost use Rattle.std.specs.Prelude.{◌≡◌, ◌<◌, ◌≤◌, List, [], ◌∷◌, ◌++◌, map, OnOk, vec_len};
 ghost use Rattle.std.specs.List.{flat_map};
 ghost use Rattle.rbbi_model.specs.Ranges.{Range};
 ghost use Rattle.rbbi_model.specs.Spelling as spelling;
@@ -36,16 +35,6 @@ fn choice(items: Vec<Tree>) -> Tree
     ensures numbers { numbers_of result ≡ flat_map numbers_of items.items }
 {
     Tree::Alt(Trees { items })
-}
-
-/// Adds no tree, as a choice of nothing.
-#[inline(never)]
-pub(crate) fn add_no_tree(alloc: Global, trees: &mut Vec<Tree>) -> Result<(), AllocError>
-    ensures { OnOk result (IsJoined spelling.choice_of trees.old.items [] trees.new.items) }
-{
-    let none = choice(Vec::new(alloc));
-    trees.push(none)?;
-    Ok(())
 }
 
 /// Makes the trees after the first ones one tree: they follow one another. One stays as it is.

@@ -72,7 +72,7 @@ new-requires-2 c =
     let stand = rules_stand files sets ms rules all.each in
     let counting = counting_all files r.classes r.dictionary_ignored T r.variables r.least r.switches r.counts (length r.statements.now)
     (omega arith) c.requires.reading in
-    subst (λ ss. AreCounted (record { rules = rules; sets = ss }) r.counts.leaves.sum r.counts.slashes.sum) (sym c.in_ok-sets.ensures)
+    subst (λ ss. AreCounted (record { rules = rules; sets = ss }) r.counts.leaves.sum r.counts.slashes.sum) (sym c.of_rows-sets.ensures)
     (record {
       well_formed = rules_formed files T sets rules all;
       leaf_count = leaves_counted r.counts c.requires.few.0 ms counting c.requires.few.1
@@ -87,7 +87,7 @@ list_is : (c : After-new-2) → c.new-2.result ≡ record {
   sets = map (characters_of (rc_value c.args.reading.classes.division)) c.rules_with_trees.new.builder.rows.items;
 }
 list_is c = let rules = c.in_ok-rules.rules.items in c.new-2.ensures ∙ ap (λ sets. let list : RuleList = record { rules = rules; sets = sets } in list)
-    c.in_ok-sets.ensures
+    c.of_rows-sets.ensures
 
 pub returns-clause-means : goal.returns-clause-means
 returns-clause-means c =

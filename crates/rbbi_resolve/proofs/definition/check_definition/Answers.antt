@@ -21,15 +21,15 @@ kind_of_atom-requires-clause-rows c =
           (λ values. AddsRows context values old c.check_expr.new.leaves.rows.items) leaves c.in_ok-summary.ensures.rows,
     )
 
-pub returns-in_ok-kind-in-Some-clause-kind : goal.returns-in_ok-kind-in-Some-clause-kind
-returns-in_ok-kind-in-Some-clause-kind c =
+pub returns-in_ok-kind_of_atom-in-Some-clause-kind : goal.returns-in_ok-kind_of_atom-in-Some-clause-kind
+returns-in_ok-kind_of_atom-in-Some-clause-kind c =
     let context = c.args.context.now in
     let k = context_of context in
     let e = expr_tree c.args.expr.now in
     let m = meaning_of_expr k e in
     let h = height_of_expr k e in
-    let own = c.in_ok-kind-in-Some.ensures m h c.in_ok-summary.ensures.counts in
-    subst (λ o. IsKindOf (files_of context) (bounds_of context) c.in_ok-kind-in-Some.kind (variable_with o m h))
+    let own = c.in_ok-kind_of_atom-in-Some.ensures m h c.in_ok-summary.ensures.counts in
+    subst (λ o. IsKindOf (files_of context) (bounds_of context) c.in_ok-kind_of_atom-in-Some.field-0 (variable_with o m h))
     (sym (ap (set_of_expr k) c.in-Some.ensures.lone)) own
 
 pub returns-in-None-clause-kind : goal.returns-in-None-clause-kind

@@ -1,6 +1,6 @@
-use Rattle.std.proofs.Common.{◌≡◌, ◌+◌, ◌<◌, ◌∷◌, map, drop, length, slice_index, sym, refl, ap, ◌∙◌, subst, arith, rules}
+use Rattle.std.proofs.Common.{◌≡◌, ◌+◌, ◌<◌, [], ◌∷◌, map, drop, length, slice_index, sym, refl, ap, ◌∙◌, subst, arith, rules}
 use Rattle.std.proofs.lemmas.Grind.{get_or_default_zero}
-use Rattle.std.proofs.lemmas.List.{drop_more, drop_all, length-map, length-append}
+use Rattle.std.proofs.lemmas.List.{append-nil, drop_more, drop_all, length-map, length-append}
 use Rattle.rbbi_tree.specs.Trees.{expr_of, seq_of, name, quoted}
 use Rattle.rbbi_tree.specs.Values.{statement_trees, expr_tree, seq_tree, item_tree, atom_tree, item_tree_out}
 use Rattle.rbbi_resolve.specs.declared.rules.Tree.{Tree}
@@ -230,10 +230,12 @@ add_atom-returns-in_ok-add_definition-in-Some-clause-added t c =
     subst (λ m. AddsTree context c.args.self.now c.add_definition.new.self m c.args.trees.now.items c.add_definition.new.trees.items)
     (sym (ap (meaning_of_atom (context_of context)) e ∙ n.means)) (record { tree = own.tree; is = own.is; built = own.built })
 
-pub add_atom-returns-in_ok-add_no_tree-in-None-clause-added : goal.add_atom-returns-in_ok-add_no_tree-in-None-clause-added
-add_atom-returns-in_ok-add_no_tree-in-None-clause-added t c =
+pub add_atom-returns-in_ok-in_choice-in-None-clause-added : goal.add_atom-returns-in_ok-in_choice-in-None-clause-added
+add_atom-returns-in_ok-in_choice-in-None-clause-added t c =
     let context = c.args.context.now in
     let never = unnamed context c.args.leaves.now c.in-Name.name c.requires.ready c.in-None.ensures in
     let e : atom_tree c.args.atom.now ≡ name c.in-Name.name = let i = c.in-Name.is in ap atom_tree i ∙ atom_of_name c.in-Name.name in
-    subst (λ m. AddsTree context c.args.self.now c.args.self.now m c.args.trees.now.items c.add_no_tree.new.trees.items)
-    (sym (ap (meaning_of_atom (context_of context)) e ∙ never)) (never_added context c.args.self.now _ _ c.in_ok-add_no_tree-in-None.ensures)
+    let old = c.args.trees.now.items in
+    subst (λ m. AddsTree context c.args.self.now c.args.self.now m old c.in_choice.new.trees.items)
+    (sym (ap (meaning_of_atom (context_of context)) e ∙ never))
+    (never_added context c.args.self.now _ _ (c.in_ok-in_choice-in-None.ensures old [] (omega (arith, c.args.trees.now.ok.0, c.len-first.ensures)) (sym (append-nil old))))
