@@ -2,6 +2,6 @@
 pub mod Trees
 pub mod Readers
 pub mod RuleTests
-pub mod RuleParts
+pub mod PositionKinds
 pub mod Rounds
 pub mod Rows

@@ -9,7 +9,7 @@ use crate::Positions;
 use crate::numbers::all_numbers;
 use crate::readers::{codes_of, readers_of};
 use crate::rule_marks::marks_of;
-use crate::rules::{Part, firsts_of, followers_of, lasts_of, owners_of};
+use crate::rules::{PositionKind, followers_of, owners_of, row_of_kind};
 use rbbi_cats::Categories;
 use rbbi_resolve::Rules;
 use std::alloc::{AllocError, Global};
@@ -30,9 +30,9 @@ pub fn positions(alloc: Global, rules: &Rules, cats: &Categories) -> Result<Posi
     let codes = codes_of(alloc, cats)?;
     let marks = marks_of(alloc, rules)?;
     let owners = owners_of(alloc, rules)?;
-    let firsts = firsts_of(alloc, rules, words)?;
-    let lasts = lasts_of(alloc, rules, Part::Whole, words)?;
-    let front_lasts = lasts_of(alloc, rules, Part::Front, words)?;
+    let firsts = row_of_kind(alloc, rules, PositionKind::First, words)?;
+    let lasts = row_of_kind(alloc, rules, PositionKind::Last, words)?;
+    let front_lasts = row_of_kind(alloc, rules, PositionKind::FrontLast, words)?;
     let followers = followers_of(alloc, rules, leaves, words)?;
     let readers = readers_of(alloc, rules.sets(), &numbers, &codes, words)?;
     Ok(Positions {

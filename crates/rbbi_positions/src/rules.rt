@@ -6,9 +6,9 @@ ghost use Rattle.rbbi_model.specs.Rules.{leaves_of, AreLawful};
 ghost use Rattle.rbbi_resolve.specs.RuleLists.{rule_of, rules_of};
 ghost use Rattle.rbbi_positions.specs.inner.Rows.{in_row};
 ghost use Rattle.rbbi_bits.specs.BitRows.{row_bit};
-ghost use Rattle.rbbi_positions.specs.inner.RuleTests.{some_rule, rule_begins, rule_goes};
+ghost use Rattle.rbbi_positions.specs.inner.RuleTests.{some_rule, rule_goes};
 ghost use Rattle.rbbi_positions.specs.inner.RuleTests.{AreOwners};
-ghost use Rattle.rbbi_positions.specs.inner.RuleParts.{part_ends};
+ghost use Rattle.rbbi_positions.specs.inner.PositionKinds.{is_of_kind};
 
 use crate::count::count;
 use crate::firsts::add_firsts;
@@ -28,68 +28,53 @@ fn count_of_rule(rule: &Rule) -> usize
     }
 }
 
-/// The row of the positions that some list of a rule begins with. A front with a rest isn't empty.
-pub(crate) fn firsts_of(alloc: Global, rules: &Rules, words: usize) -> Result<Vec<u64>, AllocError>
-    requires wide { sum_by leaves_of (rules_of rules.now) ≤ 64 * words }
-    requires few { words ≤ 128 }
-    ensures many { IfOk result (λ row. length row.items ≡ words) }
-    ensures bits { IfOk result (λ row. (position : ℕ) → row_bit row.items position
-        ≡ some_rule (rule_begins position) (rules_of rules.now) 0) }
-{
-    let mut row = vec![in alloc; 0u64; words]?;
-    let mut start = 0;
-    for number in 0..rules.len() {
-        let rule = rules.get(number);
-        add_firsts(&rule.front, start, &mut row);
-        start += count_of_rule(rule);
-    }
-    Ok(row)
-}
-
-/// A part of a rule.
+/// Which positions of a rule a row has.
 #[derive(Clone, Copy, Debug)]
-pub(crate) enum Part {
-    /// Its front.
-    Front,
-    /// Its front and its rest, where it has one.
-    Whole,
+pub(crate) enum PositionKind {
+    /// Those that its lists begin with. A front with a rest isn't empty.
+    First,
+    /// Those that the lists of its front end with.
+    FrontLast,
+    /// Those that its lists end with.
+    Last,
 }
 
-/// Adds to a row the positions that some list of this part of the rule ends with.
-fn add_part_lasts(rule: &Rule, part: Part, first: usize, row: &mut [u64])
+/// Adds to a row the positions of this kind of the rule.
+fn add_of_kind(rule: &Rule, kind: PositionKind, first: usize, row: &mut [u64])
     requires short { length row.old ≤ 128 }
     requires within { (sets : List (List Range)) →
         first + leaves_of (rule_of sets rule.now) ≤ 64 * length row.old }
     ensures { (sets : List (List Range)) (position : ℕ) → row_bit row.new position
-        ≡ (row_bit row.old position || part_ends part position (rule_of sets rule.now) first) }
+        ≡ (row_bit row.old position || is_of_kind kind position (rule_of sets rule.now) first) }
 {
-    match part {
-        Part::Front => add_lasts(&rule.front, first, row),
-        Part::Whole => match &rule.rest {
+    match kind {
+        PositionKind::First => add_firsts(&rule.front, first, row),
+        PositionKind::FrontLast => add_lasts(&rule.front, first, row),
+        PositionKind::Last => match &rule.rest {
             None => add_lasts(&rule.front, first, row),
             Some(rest) => add_lasts(rest, first + count(&rule.front), row),
         },
     }
 }
 
-/// The row of the positions that some list of this part of a rule ends with.
-pub(crate) fn lasts_of(
+/// The row of the positions of this kind of all rules.
+pub(crate) fn row_of_kind(
     alloc: Global,
     rules: &Rules,
-    part: Part,
+    kind: PositionKind,
     words: usize,
 ) -> Result<Vec<u64>, AllocError>
     requires wide { sum_by leaves_of (rules_of rules.now) ≤ 64 * words }
     requires few { words ≤ 128 }
     ensures many { IfOk result (λ row. length row.items ≡ words) }
     ensures bits { IfOk result (λ row. (position : ℕ) → row_bit row.items position
-        ≡ some_rule (part_ends part position) (rules_of rules.now) 0) }
+        ≡ some_rule (is_of_kind kind position) (rules_of rules.now) 0) }
 {
     let mut row = vec![in alloc; 0u64; words]?;
     let mut start = 0;
     for number in 0..rules.len() {
         let rule = rules.get(number);
-        add_part_lasts(rule, part, start, &mut row);
+        add_of_kind(rule, kind, start, &mut row);
         start += count_of_rule(rule);
     }
     Ok(row)
