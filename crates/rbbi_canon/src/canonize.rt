@@ -1,11 +1,10 @@
 //! The canonical table of a table.
-ghost use Rattle.std.specs.Prelude.{◌≡◌, ◌<◌, ℕ, length, slice_index, map, IfOk, MatchResult};
+ghost use Rattle.std.specs.Prelude.{◌≡◌, ◌<◌, ℕ, length, slice_index, map, IfOk};
 ghost use Rattle.rbbi_model.specs.Tables.{head_of};
 ghost use Rattle.rbbi_model.specs.ValidTables.{IsValidTable};
 ghost use Rattle.rbbi_model.specs.Canonical.{HasCanonical, IsCanonical};
 ghost use Rattle.rbbi_table.specs.Parts.{table_of};
-ghost use Rattle.rbbi_table.specs.declared.error.TableErr.TheVariants.{Memory};
-ghost use Rattle.rbbi_canon.specs.inner.Made.{AreValidParts, ArePartsOf};
+ghost use Rattle.rbbi_canon.specs.inner.Made.{ArePartsOf};
 ghost use Rattle.rbbi_canon.specs.inner.Grids.{IsGridOf};
 
 use crate::categories::join_categories;
@@ -13,8 +12,7 @@ use crate::grid::Grid;
 use crate::slashes::least_slashes;
 use crate::walk::walk_rows;
 use rbbi_table::{
-    CellList, NumberList, NumberLists, Parts, RangeList, RowHead, RowList, Table, TableErr,
-    safe_pairs,
+    CellList, NumberList, NumberLists, Parts, RangeList, RowHead, RowList, Table, safe_pairs,
 };
 use std::alloc::{AllocError, Global};
 
@@ -27,20 +25,7 @@ pub fn canonical(alloc: Global, table: &Table) -> Result<Table, AllocError>
 {
     table.valid();
     let parts = canonical_parts(alloc, table)?;
-    match from_valid(alloc, &parts) {
-        Ok(made) => Ok(made),
-        Err(_) => Err(AllocError),
-    }
-}
-
-/// The table of valid parts. Nothing but memory can be wanting.
-fn from_valid(alloc: Global, parts: &Parts) -> Result<Table, TableErr>
-    requires { AreValidParts (table_of parts.now) }
-    ensures { MatchResult result
-        (λ table. (table ≡ table_of parts.now) × IsValidTable table)
-        (λ error. error ≡ Memory) }
-{
-    Table::from_parts(alloc, parts)
+    Ok(Table::from_valid(alloc, &parts)?)
 }
 
 /// The parts of the canonical table.

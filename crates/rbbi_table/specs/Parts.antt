@@ -1,6 +1,7 @@
 -- The table that parts are, and which parts may be asked about.
 use Rattle.std.specs.Prelude.{◌≡◌, ℕ, ◌+◌, ◌*◌, ◌/◌, ◌<◌, List, [], length, slice_index}
 use Rattle.rbbi_model.specs.Tables.{Table, RowHead}
+use Rattle.rbbi_model.specs.ValidTables.{AreValidRanges, AreValidLists, AreValidRows, AreFronted, AreValidSafePairs}
 use Rattle.rbbi_table.specs.declared.parts.Parts.{Parts}
 
 -- the table of these parts, valid or not
@@ -19,6 +20,15 @@ table_of parts = record {
 pub record HasFittingParts (table : Table) : Type 0 where
   pub cells : length table.cells ≡ length table.rows * table.categories
   pub safe : length table.safe ≡ (table.categories * table.categories + 7) / 8
+
+-- Parts that are valid. That what is stored as a byte is one is no question where bytes are stored.
+pub record AreValidParts (table : Table) : Type 0 where
+  pub fitting : HasFittingParts table
+  pub ranges : AreValidRanges table.categories table.ranges
+  pub lists : AreValidLists table.lists
+  pub rows : AreValidRows table
+  pub fronts : AreFronted table
+  pub safe : AreValidSafePairs table
 
 -- a table of rows and safe pairs alone
 abbrev pub rows_of : ℕ → List RowHead → List ℕ → List ℕ → Table

@@ -1,11 +1,11 @@
 //! A valid table and its parts.
 ghost use Rattle.std.specs.Prelude.{◌≡◌, ℕ, ◌+◌, ◌-◌, ◌*◌, ◌<◌, length, slice_get, slice_index_or};
-ghost use Rattle.std.specs.Prelude.{Some, IsTrue, ◌↔◌};
+ghost use Rattle.std.specs.Prelude.{Some, IfOk, IsTrue, ◌↔◌};
 ghost use Rattle.rbbi_model.specs.Tables.{category_of, statuses_of, head_of, step};
 ghost use Rattle.rbbi_model.specs.SafePairs.{IsSafePair, is_safe};
 ghost use Rattle.rbbi_model.specs.ValidTables.{IsValidTable};
 ghost use Rattle.rbbi_model.specs.Lines.{safe_count};
-ghost use Rattle.rbbi_table.specs.Parts.{table_of, HasFittingParts};
+ghost use Rattle.rbbi_table.specs.Parts.{table_of, HasFittingParts, AreValidParts};
 ghost use Rattle.rbbi_table.specs.Answers.{MakesTable};
 
 use crate::bits::has_stored;
@@ -18,7 +18,7 @@ use crate::rows::are_valid_rows;
 use crate::safe::{are_same, safe_pairs};
 use crate::short::{Short, short_of};
 use crate::{Blocks, Parts, RangeRow, RowHead, TableErr};
-use std::alloc::Global;
+use std::alloc::{AllocError, Global};
 use std::marker::Model;
 
 /// A valid table. Contracts see it as a `Table` of `rbbi_model`, by its parts.
@@ -93,6 +93,18 @@ impl Table {
             moves,
             short,
         })
+    }
+
+    /// The table of these parts, which are valid. Fails only if memory runs out.
+    pub fn from_valid(alloc: Global, parts: &Parts) -> Result<Table, AllocError>
+        requires { AreValidParts (table_of parts.now) }
+        ensures { IfOk result (λ table. (table ≡ table_of parts.now) × IsValidTable table) }
+    {
+        match Table::from_parts(alloc, parts) {
+            Ok(table) => Ok(table),
+            Err(TableErr::Memory) => Err(AllocError),
+            Err(_) => unreachable!(),
+        }
     }
 
     /// That the table is valid: it is there for proofs, and does nothing when it runs.
