@@ -6,7 +6,8 @@ use Rattle.rbbi_model.specs.Tables.{Table, CategoryRange, RowHead}
 use Rattle.rbbi_model.specs.ValidTables.{AreValidRanges, AreValidRows}
 use Rattle.rbbi_table.specs.Parts.{AreNextRows, rows_of, HasFittingParts}
 use Rattle.rbbi_table.specs.Pairs.{ArePairsOf}
-use Rattle.rbbi_dfa.specs.inner.LeastTables.{AreValidParts, IsLeastOf, finished}
+use Rattle.rbbi_table.specs.Parts.{AreValidParts}
+use Rattle.rbbi_dfa.specs.inner.LeastTables.{IsLeastOf, finished}
 use Rattle.rbbi_dfa.proofs.Compiling.{AreValidRows-finished, AreFronted-finished}
 
 -- each next row is a row

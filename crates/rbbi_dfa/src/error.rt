@@ -1,5 +1,5 @@
 //! Why rules aren't compiled.
-use std::alloc::{AllocError, AllocFailed};
+use std::alloc::AllocError;
 use thiserror::Error;
 
 /// Why rules aren't compiled.
@@ -26,17 +26,6 @@ impl From<AllocError> for BuildErr {
     ghost from_gives = { λ _ e. e ≡ Memory };
 
     fn from(_error: AllocError) -> BuildErr {
-        BuildErr::Memory
-    }
-}
-
-impl<T: Drop> From<AllocFailed<T>> for BuildErr {
-    ghost use Rattle.std.specs.Prelude.{◌≡◌};
-    ghost use Rattle.rbbi_dfa.specs.declared.error.BuildErr.TheVariants.{Memory};
-
-    ghost from_gives = { λ _ e. e ≡ Memory };
-
-    fn from(_error: AllocFailed<T>) -> BuildErr {
         BuildErr::Memory
     }
 }

@@ -1,19 +1,15 @@
 //! The table of an automaton.
-ghost use Rattle.std.specs.Prelude.{◌≡◌, ◌*◌, length, map, IfOk, MatchResult};
-ghost use Rattle.rbbi_model.specs.ValidTables.{AreValidRanges, AreValidRows, IsValidTable};
+ghost use Rattle.std.specs.Prelude.{◌≡◌, ◌*◌, length, map, IfOk};
+ghost use Rattle.rbbi_model.specs.ValidTables.{AreValidRanges, AreValidRows};
 ghost use Rattle.rbbi_table.specs.Parts.{table_of};
 ghost use Rattle.rbbi_table.specs.Pairs.{ArePairsOf};
 ghost use Rattle.rbbi_dfa.specs.inner.Automata.{IsDetermined};
-ghost use Rattle.rbbi_table.specs.declared.error.TableErr.TheVariants.{Memory};
-ghost use Rattle.rbbi_dfa.specs.inner.LeastTables.{AreValidParts, GivesTable, finished};
+ghost use Rattle.rbbi_dfa.specs.inner.LeastTables.{GivesTable, finished};
 
 use crate::automaton::Automaton;
 use crate::error::BuildErr;
 use crate::least::least;
-use rbbi_table::{
-    CellList, NumberList, NumberLists, Parts, RangeList, RowHead, RowList, Table, TableErr,
-    safe_pairs,
-};
+use rbbi_table::{CellList, NumberList, NumberLists, Parts, RangeList, RowList, Table, safe_pairs};
 use std::alloc::{AllocError, Global};
 
 /// The least table with the marks of the automaton, with these ranges and all safe pairs.
@@ -30,20 +26,7 @@ pub(crate) fn least_table(
 {
     let least = least(alloc, automaton)?;
     let parts = parts_of(alloc, least, ranges)?;
-    match from_valid(alloc, &parts) {
-        Ok(table) => Ok(table),
-        Err(_) => Err(BuildErr::Memory),
-    }
-}
-
-/// The table of valid parts. Nothing but memory can be wanting.
-fn from_valid(alloc: Global, parts: &Parts) -> Result<Table, TableErr>
-    requires { AreValidParts (table_of parts.now) }
-    ensures { MatchResult result
-        (λ table. (table ≡ table_of parts.now) × IsValidTable table)
-        (λ error. error ≡ Memory) }
-{
-    Table::from_parts(alloc, parts)
+    Ok(Table::from_valid(alloc, &parts)?)
 }
 
 /// The parts of a table: those of the least automaton, these ranges, and the bits of all safe

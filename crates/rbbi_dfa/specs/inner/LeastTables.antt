@@ -1,8 +1,7 @@
 -- The least table with the marks of an automaton.
 use Rattle.std.specs.Prelude.{◌≡◌, ◌*◌, ℕ, List, length, Result, Ok, Err}
 use Rattle.rbbi_model.specs.Tables.{Table, CategoryRange, row_along}
-use Rattle.rbbi_model.specs.ValidTables.{IsWay, AreValidRanges, AreValidLists, AreValidRows, AreFronted, AreValidSafePairs, IsValidTable}
-use Rattle.rbbi_table.specs.Parts.{HasFittingParts}
+use Rattle.rbbi_model.specs.ValidTables.{IsWay, AreValidLists, AreValidRows, AreFronted, IsValidTable}
 use Rattle.rbbi_model.specs.Marks.{marks_of}
 use Rattle.rbbi_model.specs.Compiled.{IsLeast}
 use Rattle.rbbi_dfa.specs.inner.Partitions.{NeedsRows}
@@ -32,15 +31,6 @@ GivesLeast automaton (Err Memory) = Unit {0}
 -- the table with these ranges and safe pairs in place of its own
 abbrev pub finished : Table → List CategoryRange → List ℕ → Table
 finished table ranges safe = record table { ranges = ranges; safe = safe }
-
--- Parts that are valid. That what is stored as a byte is one is no question where bytes are stored.
-pub record AreValidParts (table : Table) : Type 0 where
-  pub fitting : HasFittingParts table
-  pub ranges : AreValidRanges table.categories table.ranges
-  pub lists : AreValidLists table.lists
-  pub rows : AreValidRows table
-  pub fronts : AreFronted table
-  pub safe : AreValidSafePairs table
 
 -- The automaton's least table with these ranges and all safe pairs, or too many rows exactly where more than 4,095 are needed, row 0
 -- counted. `Memory` doesn't depend on the table.

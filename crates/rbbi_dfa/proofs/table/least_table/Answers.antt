@@ -1,6 +1,6 @@
 use Rattle.std.proofs.Common.{sym, subst}
 use Rattle.rbbi_table.specs.Pairs.{ArePairsOf}
-use Rattle.rbbi_dfa.specs.inner.LeastTables.{AreValidParts}
+use Rattle.rbbi_table.specs.Parts.{AreValidParts}
 use Rattle.rbbi_dfa.proofs.Finishing.{AreValidParts-finished}
 use Rattle.rbbi_dfa.proofs.table.least_table.Goals as goal
 
