@@ -238,4 +238,5 @@ add_atom-returns-in_ok-in_choice-in-None-clause-added t c =
     let old = c.args.trees.now.items in
     subst (λ m. AddsTree context c.args.self.now c.args.self.now m old c.in_choice.new.trees.items)
     (sym (ap (meaning_of_atom (context_of context)) e ∙ never))
-    (never_added context c.args.self.now _ _ (c.in_ok-in_choice-in-None.ensures old [] (omega (arith, c.args.trees.now.ok.0, c.len-first.ensures)) (sym (append-nil old))))
+    (never_added context c.args.self.now _ _
+    (c.in_ok-in_choice-in-None.ensures old [] (omega (arith, c.args.trees.now.ok.0, c.len-first.ensures)) (sym (append-nil old))))
