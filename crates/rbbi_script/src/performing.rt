@@ -1,6 +1,5 @@
 //! Commands performed by a session.
 ghost use Rattle.std.specs.Prelude.{◌≡◌};
-ghost use Rattle.rbbi_model.specs.Scripts as model;
 ghost use Rattle.rbbi_session.specs.Sessions.{place_reply, test_reply, HasTrueRuns};
 ghost use Rattle.rbbi_session.specs.UnitWalks.{unit_view};
 ghost use Rattle.rbbi_script.specs.Meaning.{meaning};
@@ -13,7 +12,7 @@ use crate::listing::{say_boundaries, say_text};
 use crate::saying::{Said, say};
 use crate::statuses::say_list;
 use rbbi_session::{UnitEditErr, UnitSession, Walk, greatest};
-use rbbi_text::{Steps, UnitText, Word};
+use rbbi_text::{Steps, UnitText};
 use std::alloc::AllocError;
 use std::sync::ledger::Ledger;
 
@@ -76,7 +75,15 @@ pub fn perform_by<S: Walk, L: Ledger>(
         Command::Following(place) => say(place_said(session.following(*place, steps)), reply),
         Command::Preceding(place) => say(place_said(session.preceding(*place, steps)), reply),
         Command::Is(place) => say(test_said(session.is_boundary(*place, steps)), reply),
-        Command::Replace { at, remove, text } => edit(session, *at, *remove, text, reply, steps),
+        Command::Replace { at, remove, text } => {
+            match session.replace(*at, *remove, text.as_str(), steps) {
+                Ok(()) => say(Said::Edited(session.units()), reply),
+                Err(UnitEditErr::Outside) => say(Said::Outside, reply),
+                Err(UnitEditErr::Inside) => say(Said::Inside, reply),
+                Err(UnitEditErr::TooLong) => say(Said::TooLong, reply),
+                Err(UnitEditErr::Memory) => Err(AllocError),
+            }
+        }
         Command::Breaks => say_boundaries(session, reply, steps),
         Command::Text => say_text(session.text(), reply, steps),
     }
@@ -97,29 +104,4 @@ fn test_said(is: bool) -> Said
     ensures { reply_of result ≡ test_reply is }
 {
     if is { Said::Yes } else { Said::No }
-}
-
-/// Performs an edit.
-fn edit<S: Walk, L: Ledger>(
-    session: &mut S,
-    at: u32,
-    remove: u32,
-    text: &Word,
-    reply: &mut Vec<u8>,
-    steps: &mut Steps<L>,
-) -> Result<(), AllocError>
-    ensures replies { Performs S.view session.old (model.Replace at remove text.now)
-        reply.old.items result session.new reply.new.items }
-    ensures cost { IsPaid S.view session.old (model.Replace at remove text.now)
-        steps.old steps.new }
-    ensures reads { Reads S.view session.old (model.Replace at remove text.now) result session.new
-        steps.old steps.new }
-{
-    match session.replace(at, remove, text.as_str(), steps) {
-        Ok(()) => say(Said::Edited(session.units()), reply),
-        Err(UnitEditErr::Outside) => say(Said::Outside, reply),
-        Err(UnitEditErr::Inside) => say(Said::Inside, reply),
-        Err(UnitEditErr::TooLong) => say(Said::TooLong, reply),
-        Err(UnitEditErr::Memory) => Err(AllocError),
-    }
 }
