@@ -21,7 +21,7 @@ _segment() {
         -*)
             COMPREPLY=($(compgen -W '--by --rules --table --check --lint --why --prop
                 --ignore-dictionary --format --mark --width --null --count --units --only --only-words --suppress
-                --tailor --lossy --explain --color --help --version' -- "$word"))
+                --tailor --lossy --no-filename --explain --color --help --version' -- "$word"))
             ;;
         *) compopt -o filenames && COMPREPLY=($(compgen -f -- "$word")) ;;
         esac

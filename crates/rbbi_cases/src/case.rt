@@ -3,6 +3,7 @@ use crate::entry::Entry;
 use crate::error::CaseErr;
 use crate::escapes::{split_once, unescaped, unescaped_name, unescaped_string};
 use rbbi_io::{MemFiles, MemSink};
+use rbbi_segment::Sizes;
 use rbbi_text::{append, decimal};
 use std::alloc::Global;
 
@@ -17,6 +18,10 @@ pub(crate) struct Case {
     pub(crate) is_segment: bool,
     pub(crate) words: Vec<String>,
     pub(crate) files: MemFiles,
+    /// The same files, as `segment` reads texts.
+    pub(crate) texts: MemFiles,
+    /// How many bytes of a text `segment` reads at once, at most.
+    pub(crate) block: u32,
     pub(crate) input: Vec<u8>,
     pub(crate) out: MemSink,
     pub(crate) errors: MemSink,
@@ -56,6 +61,8 @@ impl Case {
             is_segment: false,
             words: Vec::new(alloc),
             files: MemFiles::new(alloc),
+            texts: MemFiles::new(alloc),
+            block: Sizes::USUAL.block,
             input: Vec::new(alloc),
             out: MemSink::new(alloc),
             errors: MemSink::new(alloc),
@@ -77,7 +84,7 @@ impl Case {
     /// Takes what a key with the name of a file says.
     fn take_named(&mut self, key: &str, name: &str, text: &[u8]) -> Result<(), CaseErr> {
         match key {
-            "file" => self.files.add(name, &unescaped(self.alloc, text)?)?,
+            "file" => self.hold(name, &unescaped(self.alloc, text)?)?,
             "written" => {
                 let name = String::from_str(self.alloc, name)?;
                 let bytes = unescaped(self.alloc, text)?;
@@ -87,11 +94,18 @@ impl Case {
                 let held = self.held(name);
                 let len = held.len().min(number(text)? as usize);
                 let bytes = held[..len].to_vec(self.alloc)?;
-                self.files.add(name, &bytes)?;
+                self.hold(name, &bytes)?;
             }
             "change" => self.change(name, text)?,
             _ => return Err(CaseErr::Wrong("no such key with a name")),
         }
+        Ok(())
+    }
+
+    /// Puts a file there.
+    fn hold(&mut self, name: &str, bytes: &[u8]) -> Result<(), CaseErr> {
+        self.files.add(name, bytes)?;
+        self.texts.add(name, bytes)?;
         Ok(())
     }
 
@@ -107,7 +121,7 @@ impl Case {
         let mut bytes = held[..at].to_vec(self.alloc)?;
         append(&new, &mut bytes)?;
         append(&held[end..], &mut bytes)?;
-        self.files.add(name, &bytes)?;
+        self.hold(name, &bytes)?;
         Ok(())
     }
 
@@ -136,6 +150,7 @@ impl Case {
             "fail-put" => self.out.fail_at(number(text)?.into())?,
             "put-at-most" => self.out.at_most((number(text)? as usize).max(1)),
             "calls" => self.want(Wanted::Count(Counted::Calls, number(text)?.into()))?,
+            "block" => self.block = number(text)?,
             "puts" => self.want(Wanted::Count(Counted::Puts, number(text)?.into()))?,
             _ => return Err(CaseErr::Wrong("no such key")),
         }

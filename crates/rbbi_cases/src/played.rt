@@ -2,7 +2,8 @@
 ghost use Rattle.std.specs.Prelude.{◌≡◌, ◌<◌};
 
 use crate::case::{Case, Counted, Wanted};
-use rbbi_segment::{Surroundings, System, segment};
+use rbbi_io::MemFiles;
+use rbbi_segment::{Sizes, Surroundings, System, segment};
 use rbbi_text::Steps;
 use rbbi_tool::rbbi;
 use std::alloc::{AllocError, Global};
@@ -11,18 +12,40 @@ use std::marker::Brand;
 use std::sync::ledger::{Blank, Ledger};
 
 /// No terminal is anywhere.
-const SURROUNDINGS: Surroundings = Surroundings {
-    output_is_terminal: false,
-    errors_are_on_terminal: false,
-    no_color: false,
-};
+fn surroundings(case: &Case) -> Surroundings {
+    Surroundings {
+        output_is_terminal: false,
+        errors_are_on_terminal: false,
+        no_color: false,
+        sizes: Sizes {
+            block: case.block,
+            ..Sizes::USUAL
+        },
+    }
+}
 
 /// A system in which `.` is a folder, other files that can't be read aren't there, and nobody knows
 /// why the output fails.
 #[derive(Clone, Copy)]
-struct Memory;
+struct Memory<'a> {
+    /// The texts, which are those of the files.
+    texts: &'a MemFiles,
+}
 
-impl System for Memory {
+impl<'a> System for Memory<'a> {
+    ghost use Rattle.std.specs.Prelude.{None};
+
+    ghost contents = { λ _. None };
+
+    type Reader = &'a [u8];
+
+    fn open(&self, name: &str) -> io::Result<&'a [u8]> {
+        match self.texts.get(name) {
+            Some(bytes) => Ok(bytes),
+            None => Err(io::Error::from_raw_os_error(2)),
+        }
+    }
+
     fn unread(&self, name: &str) -> Option<io::Error> {
         let number = if name == "." { 21 } else { 2 };
         Some(io::Error::from_raw_os_error(number))
@@ -41,8 +64,8 @@ fn status_by<L: Ledger>(alloc: Global, case: &mut Case, steps: &mut Steps<L>) ->
     segment(
         alloc,
         &case.words,
-        SURROUNDINGS,
-        &Memory,
+        surroundings(case),
+        &Memory { texts: &case.texts },
         &mut case.files,
         &mut case.input.as_slice(),
         &mut case.out,

@@ -1,8 +1,11 @@
 -- What is put of the segments by a table that gives the boundaries of UAX #29 is put of those by the annex.
-use Rattle.std.proofs.Common.{◌≡◌, List, ℕ, Option, ap, ◌∙◌, subst}
-use Rattle.std.specs.Prelude.{Result, Ok, Err, OnOk, IfOk, IfSome}
+use Rattle.std.proofs.Common.{◌≡◌, ℕ, ◌+◌, ◌<◌, Bool, ◌==◌, List, length, take, get_or, Option, Some, sym, ap, subst, arith, length-take-le}
+use Rattle.std.specs.Prelude.{Result, Ok, Err, OnOk, IfOk, IfSome, if◌then◌else◌, chars}
 use Rattle.std.specs.Borrow.{Bor}
+use Rattle.std.proofs.lemmas.List.{take_more}
+use Rattle.std.specs.Str.Lossy.{utf8_lossy}
 use Rattle.std.proofs.lemmas.Option.{IfSome_then}
+use Rattle.rbbi_model.specs.declared.unit.Unit.{Unit as TextUnit}
 use Rattle.rbbi_model.specs.Words.{IsText}
 use Rattle.rbbi_model.specs.Boundaries.{Boundary}
 use Rattle.rbbi_model.specs.Searches.{table_boundaries}
@@ -14,10 +17,12 @@ use Rattle.rbbi_segment_tables.specs.declared.loading.Kind.{Kind}
 use Rattle.rbbi_segment.specs.declared.colors.Colors.{Colors}
 use Rattle.rbbi_segment.specs.declared.options.Basis.{Basis}
 use Rattle.rbbi_segment.specs.declared.options.Basis.TheVariants.{BuiltIn, Rules, Table as OfFile}
+use Rattle.rbbi_segment.specs.declared.only.Wanted.{Wanted}
+use Rattle.rbbi_segment.specs.declared.options.Format.{Format}
 use Rattle.rbbi_segment.specs.declared.options.Request.{Request}
 use Rattle.rbbi_segment.specs.declared.options.Task.TheVariants.{Segment}
-use Rattle.rbbi_segment.specs.Annexes.{TakesAnnex, IsTableOf, TakesLinesOf}
-use Rattle.rbbi_segment.specs.Contents.{IsTextOf}
+use Rattle.rbbi_segment.specs.Annexes.{AreTakenInTurn, OneText, TakesAnnex, TakesText, heading_of, IsTableOf, TakesLinesOf}
+use Rattle.rbbi_segment.specs.Contents.{IsGiven, IsHeld, IsTextGiven, IsTextOf}
 use Rattle.rbbi_segment.specs.Filters.{searched, reported, IsFilterOf}
 use Rattle.rbbi_segment.specs.Lines.{lines_in}
 use Rattle.rbbi_segment.specs.Segments.{segments, segments_between}
@@ -37,19 +42,54 @@ pub of_file : {T E : Type 0} (r : Result T E) → IfOk r (λ _. Unit {0})
 of_file (Ok value) = tt
 of_file (Err e) = tt
 
--- what is put of the text that the task names, by the table of the basis and the filter
-pub of_basis : {T E F : Type 0} (contents : F → Option (List ℕ → List ℕ)) (old mid late : F) (table : Table) (f : Option Filter) (request : Request)
-    (colors : Colors) (before now : Option (List ℕ)) (name : Bor (List ℕ)) (basis : Basis) (r : Result T E) → IsTableOf basis old mid table
-    → IsFilterOf (contents mid) request.filtering f → contents late ≡ contents mid
+-- what is put of the text of the bytes that a reader gives
+pub text_taken : (kind : Kind) (table : Table) (request : Request) (f : Option Filter) (colors : Colors) (remaining : Option (List ℕ))
+    (bytes given : List ℕ) (before now : Option (List ℕ)) → GivesAnnex kind table → ((x : List ℕ) → IsText x → IsText (searched f x))
+    → IsText (chars bytes) → IsGiven remaining given → bytes ≡ (if request.is_lossy then utf8_lossy given else given)
+    → IfSome (lines_in request.format request.wanted colors (chars bytes) (segments request.unit f table (chars bytes))) (Takes before now)
+    → (x : List ℕ) × IsTextGiven request.is_lossy remaining x × TakesAnnex kind request f colors x before now
+text_taken kind table request f colors remaining bytes given before now gives texts is of same taken =
+    (chars bytes, (given, of, ap chars same), annex_taken kind table request f colors (chars bytes) before now gives (texts (chars bytes) is) taken)
+
+-- the bytes of a reader that gives what the name holds are held
+pub held : (contents : Option (List ℕ → List ℕ)) (remaining : Option (List ℕ)) (name bytes : List ℕ)
+    → IfSome contents (λ held. remaining ≡ Some (held name)) → IsGiven remaining bytes → IsHeld contents name bytes
+held contents remaining name bytes opened given other =
+    IfSome_then contents {P = λ held. remaining ≡ Some (held name)} {Q = λ held. bytes ≡ held name} opened
+    (λ held same. subst (λ r. IsGiven r bytes) same given)
+
+-- what putting the text that a reader gives answers, in a format
+abbrev pub PutsIn : {T E : Type 0} → Result T E → Option (List ℕ) → Wanted → Colors → TextUnit → Option Filter → Table → Option (List ℕ) → Option (List ℕ)
+    → Format → Type 0
+PutsIn r remaining wanted colors unit f table before now format = OnOk r ((bytes : List ℕ) × IsGiven remaining bytes × IsText (chars bytes)
+    × IfSome (lines_in format wanted colors (chars bytes) (segments unit f table (chars bytes))) (Takes before now))
+
+-- one text more was taken, with its heading
+pub more_taken : (kind : Kind) (request : Request) (f : Option Filter) (colors : Colors) (texts : Option (List ℕ → List ℕ))
+    (before so_far headed now : Option (List ℕ)) (is_first : Bool) (names read : List (Bor (List ℕ))) (i : ℕ) (d : Bor (List ℕ)) → read ≡ names
+    → i < length read → is_first ≡ (i == 0) → AreTakenInTurn (TakesText kind request f colors texts) before (take i names) so_far
+    → Takes so_far headed (heading_of request is_first (get_or read i d).now)
+    → ((x : List ℕ) × IsTextOf request.is_lossy texts (get_or read i d).now x × TakesAnnex kind request f colors x headed now)
+    → AreTakenInTurn (TakesText kind request f colors texts) before (take (i + 1) names) now
+more_taken kind request f colors texts before so_far headed now is_first names read i d same within first taken heading text =
+    let Takes_it : ℕ → List ℕ → Option (List ℕ) → Option (List ℕ) → Type 0 = TakesText kind request f colors texts in
+    let inside : i < length names = subst (λ l. i < length l) same within in
+    let here : Takes_it i (get_or read i d).now so_far now =
+    (headed, subst (λ b. Takes so_far headed (heading_of request b (get_or read i d).now)) first heading, text) in
+    let numbered : Takes_it (length (take i names)) (get_or names i d).now so_far now =
+    subst (λ n. Takes_it n (get_or names i d).now so_far now) (sym (length-take-le i names (omega (arith, inside))))
+    (subst (λ l. Takes_it i (get_or l i d).now so_far now) same here) in
+    subst (λ l. AreTakenInTurn Takes_it before l now) (sym (take_more names i d inside)) (OneText (take i names) (get_or names i d) so_far now taken numbered)
+
+-- what is put of the texts that are named, by the table of the basis and the filter
+pub of_basis : {T E F : Type 0} (contents : F → Option (List ℕ → List ℕ)) (texts : Option (List ℕ → List ℕ)) (old mid : F) (table : Table)
+    (f : Option Filter) (request : Request) (colors : Colors) (before now : Option (List ℕ)) (basis : Basis) (r : Result T E)
+    → IsTableOf basis old mid table → IsFilterOf (contents mid) request.filtering f
     → ((kind : Kind) → GivesAnnex kind table →
-    OnOk r ((x : List ℕ) × IsTextOf request.is_lossy (contents late) name.now x × TakesAnnex kind request f colors x before now))
-    → OnOk r (TakesLinesOf request colors (contents old) before now (Segment name) basis)
-of_basis contents old mid late table f request colors before now name basis (Err e) is filter stays puts = tt
-of_basis contents old mid late table f request colors before now name (BuiltIn kind) (Ok value) is filter stays puts =
-    let same : contents mid ≡ contents old = ap contents is.1 in (
-      f,
-      subst (λ c. IsFilterOf c request.filtering f) same filter,
-      subst (λ c. (x : List ℕ) × IsTextOf request.is_lossy c name.now x × TakesAnnex kind request f colors x before now) (stays ∙ same) (puts kind is.0),
-    )
-of_basis contents old mid late table f request colors before now name (Rules file) (Ok value) is filter stays puts = tt
-of_basis contents old mid late table f request colors before now name (OfFile file) (Ok value) is filter stays puts = tt
+    OnOk r (AreTakenInTurn (TakesText kind request f colors texts) before request.names.items now))
+    → OnOk r (TakesLinesOf request colors (contents old) texts before now Segment basis)
+of_basis contents texts old mid table f request colors before now basis (Err e) is filter puts = tt
+of_basis contents texts old mid table f request colors before now (BuiltIn kind) (Ok value) is filter puts =
+    (f, subst (λ c. IsFilterOf c request.filtering f) (ap contents is.1) filter, puts kind is.0)
+of_basis contents texts old mid table f request colors before now (Rules file) (Ok value) is filter puts = tt
+of_basis contents texts old mid table f request colors before now (OfFile file) (Ok value) is filter puts = tt

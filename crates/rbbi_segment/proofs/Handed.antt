@@ -13,15 +13,13 @@ use Rattle.rbbi_filter.specs.declared.filter.Filter.TheVariants.{Suppressing, Tu
 use Rattle.rbbi_filter.specs.Pairs.{turn}
 use Rattle.rbbi_segment.specs.Filters.{searched, reported, reports}
 use Rattle.rbbi_segment.specs.declared.segments.Segment.{Segment}
-use Rattle.rbbi_segment.specs.Segments.{segment_to, segments_from, segments_between, segments, AreTaken, NoneTaken, OneMore}
+use Rattle.rbbi_segment.specs.Segments.{segment_to, segments_from, segments_between, segments, AreTaken, NoneTaken, OneMore, Paused}
+use Rattle.rbbi_segment.specs.Windows.{following, AreHandedTo}
+use Rattle.std.specs.Prelude.{slice_range}
 
 -- the boundary is one of those that are reported
 abbrev pub is_kept : (ℕ → Bool) → Boundary → Bool
 is_kept keeps b = keeps b.at
-
--- the boundaries that follow a place, at most so many, and are reported
-abbrev pub following : (ℕ → Bool) → Table → List ℕ → ℕ → ℕ → List Boundary
-following keeps table z most at = filter (is_kept keeps) (follow_by (next_boundary table z) (length z) most (record { at = at; statuses = [] }))
 
 -- what follows a boundary depends on its place alone
 by_place : (table : Table) (z : List ℕ) (most : ℕ) (b : Boundary)
@@ -78,31 +76,25 @@ from_start unit f table x =
     ∙ ap (λ t. segments_between unit x (cond t (start ∷ filter p rest) (filter p rest))) (start_reported f z)
     ∙ ap (λ bs. segments_from unit x 0 (filter p bs)) (by_place table z (length z) start)
 
--- The segments up to a boundary that is reported were taken, and those that follow are the rest. Boundaries were looked for up to a place.
-pub record AreHandedTo {V : Type 0} (takes : V → Option (List ℕ) → List ℕ → Segment → V → Option (List ℕ) → Type 0) (unit : TextUnit)
-    (keeps : ℕ → Bool) (table : Table) (z x : List ℕ) (all : List Segment) (first : V) (before : Option (List ℕ)) (receiver : V)
-    (now : Option (List ℕ)) (from at : ℕ) : Type 0 where
-  pub done : List Segment
-  pub most : ℕ
-  pub ahead : from ≤ at
-  pub enough : length z ≤ at + most
-  pub whole : all ≡ done ++ segments_from unit x from (following keeps table z most at)
-  pub taken : AreTaken takes x first before done receiver now
+module _ {V : Type 0} (takes : V → Option (List ℕ) → List ℕ → Segment → V → Option (List ℕ) → Type 0)
+    (pauses : V → Option (List ℕ) → V → Option (List ℕ) → Type 0) (unit : TextUnit) (f : Option Filter) (table : Table) (x : List ℕ)
+    (first : V) (before : Option (List ℕ)) where
+  -- the text in which boundaries are looked for
+  abbrev z : List ℕ
+  z = searched f x
 
-module _ {V : Type 0} (takes : V → Option (List ℕ) → List ℕ → Segment → V → Option (List ℕ) → Type 0) (unit : TextUnit)
-    (f : Option Filter) (table : Table) (z x : List ℕ) (first : V) (before : Option (List ℕ)) where
   -- what is taken of all segments of the text
   abbrev pub AreHanded : V → Option (List ℕ) → ℕ → ℕ → Type 0
-  AreHanded receiver now from at = AreHandedTo takes unit (reports f z) table z x (segments unit f table x) first before receiver now from at
+  AreHanded receiver now from at = AreHandedTo takes pauses unit f table x first before receiver now from at
 
   -- nothing is taken at the text's start
-  pub handed_start : z ≡ searched f x → AreHanded first before 0 0
-  handed_start is = record {
+  pub handed_start : AreHanded first before 0 0
+  handed_start = record {
     done = [];
     most = length z;
     ahead = omega arith;
-    enough = omega arith;
-    whole = subst (λ y. segments unit f table x ≡ segments_from unit x 0 (following (reports f y) table y (length y) 0)) (sym is) (from_start unit f table x);
+    enough = omega (arith, searched_len f x);
+    whole = from_start unit f table x;
     taken = NoneTaken;
   }
 
@@ -111,9 +103,9 @@ module _ {V : Type 0} (takes : V → Option (List ℕ) → List ℕ → Segment 
       → at < (next_boundary table z at).at → to ≡ (next_boundary table z at).at → reports f z to ≡ false → AreHanded receiver now from to
   handed_passed receiver now from at to so_far inside past is hidden = by_most so_far.most so_far.enough so_far.whole
     where
-      by_most : (most : ℕ) → length z ≤ at + most → segments unit f table x ≡ so_far.done ++ segments_from unit x from (following (reports f z) table z most at)
+      by_most : (most : ℕ) → length x ≤ at + most → segments unit f table x ≡ so_far.done ++ segments_from unit x from (following (reports f z) table z most at)
           → AreHanded receiver now from to
-      by_most zero enough whole = absurd (omega arith)
+      by_most zero enough whole = absurd (omega (arith, searched_len f x))
       by_most (suc most) enough whole =
           let n : ℕ = (next_boundary table z at).at in
           let rest : List Boundary = following (reports f z) table z most n in
@@ -133,12 +125,12 @@ module _ {V : Type 0} (takes : V → Option (List ℕ) → List ℕ → Segment 
   pub handed_more : (receiver next : V) (between now : Option (List ℕ)) (from at to : ℕ) (segment : Segment)
       → AreHanded receiver between from at → at < length z → at < (next_boundary table z at).at → to ≡ (next_boundary table z at).at
       → reports f z to ≡ true → segment ≡ segment_to unit x from (next_boundary table z at)
-      → takes receiver between x segment next now → AreHanded next now to to
+      → takes receiver between (slice_range x segment.start segment.end) segment next now → AreHanded next now to to
   handed_more receiver next between now from at to segment so_far inside past is shown is_it takes_it = by_most so_far.most so_far.enough so_far.whole
     where
-      by_most : (most : ℕ) → length z ≤ at + most → segments unit f table x ≡ so_far.done ++ segments_from unit x from (following (reports f z) table z most at)
+      by_most : (most : ℕ) → length x ≤ at + most → segments unit f table x ≡ so_far.done ++ segments_from unit x from (following (reports f z) table z most at)
           → AreHanded next now to to
-      by_most zero enough whole = absurd (omega arith)
+      by_most zero enough whole = absurd (omega (arith, searched_len f x))
       by_most (suc most) enough whole =
           let n : ℕ = (next_boundary table z at).at in
           let bs : List Boundary = following (reports f z) table z most n in
@@ -157,12 +149,25 @@ module _ {V : Type 0} (takes : V → Option (List ℕ) → List ℕ → Segment 
             taken = OneMore so_far.done segment receiver next between now so_far.taken takes_it;
           })
 
+  -- a pause
+  pub handed_paused : (receiver next : V) (between now : Option (List ℕ)) (from at : ℕ) → AreHanded receiver between from at
+      → pauses receiver between next now → AreHanded next now from at
+  handed_paused receiver next between now from at so_far paused = record {
+    done = so_far.done;
+    most = so_far.most;
+    ahead = so_far.ahead;
+    enough = so_far.enough;
+    whole = so_far.whole;
+    taken = Paused so_far.done receiver next between now so_far.taken paused;
+  }
+
   -- at the text's end all are taken
-  pub all_handed : (receiver : V) (now : Option (List ℕ)) (from at : ℕ) → AreHanded receiver now from at → length z ≤ at
-      → AreTaken takes x first before (segments unit f table x) receiver now
+  pub all_handed : (receiver : V) (now : Option (List ℕ)) (from at : ℕ) → AreHanded receiver now from at → length x ≤ at
+      → AreTaken takes pauses x first before (segments unit f table x) receiver now
   all_handed receiver now from at so_far past =
-      subst (λ all. AreTaken takes x first before all receiver now)
-      (sym (so_far.whole ∙ ap (λ bs. so_far.done ++ segments_from unit x from bs) (ends_there (reports f z) table z so_far.most at past)
+      subst (λ all. AreTaken takes pauses x first before all receiver now)
+      (sym (so_far.whole
+      ∙ ap (λ bs. so_far.done ++ segments_from unit x from bs) (ends_there (reports f z) table z so_far.most at (omega (arith, past, searched_len f x)))
       ∙ append-nil so_far.done))
       so_far.taken
 

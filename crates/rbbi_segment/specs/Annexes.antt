@@ -1,5 +1,6 @@
 -- What a run with a built-in table puts.
-use Rattle.std.specs.Prelude.{◌≡◌, ℕ, List, Option, IfSome}
+use Rattle.std.specs.Prelude.{◌≡◌, ℕ, List, [], ◌∷◌, ◌++◌, Bool, ◌==◌, if◌then◌else◌, length, Option, IfSome}
+use Rattle.std.specs.Borrow.{Bor}
 use Rattle.rbbi_model.specs.Tables.{Table}
 use Rattle.rbbi_io.specs.Sinks.{Takes}
 use Rattle.rbbi_filter.specs.declared.filter.Filter.{Filter}
@@ -14,6 +15,7 @@ use Rattle.rbbi_segment.specs.declared.options.Task.TheVariants.{Check, Segment}
 use Rattle.rbbi_segment.specs.Contents.{IsTextOf}
 use Rattle.rbbi_segment.specs.Filters.{searched, reported, IsFilterOf}
 use Rattle.rbbi_segment.specs.Segments.{segments_between}
+use Rattle.rbbi_segment.specs.Headings.{heading}
 use Rattle.rbbi_segment.specs.Lines.{lines_in}
 
 -- A sink took the lines of the segments of the text by its annex that the filter leaves, in a format that prints each by itself.
@@ -28,9 +30,29 @@ IsTableOf (BuiltIn kind) old new table = GivesAnnex kind table × (new ≡ old)
 IsTableOf (Rules name) old new table = Unit {0}
 IsTableOf (OfFile name) old new table = Unit {0}
 
--- With a built-in table a sink took these lines of the text that the task names, through the filter that is asked for.
-abbrev pub TakesLinesOf : Request → Colors → Option (List ℕ → List ℕ) → Option (List ℕ) → Option (List ℕ) → Task → Basis → Type 0
-TakesLinesOf request colors contents before now (Segment name) (BuiltIn kind) =
-    (filter : Option Filter) × IsFilterOf contents request.filtering filter
-    × ((x : List ℕ) × IsTextOf request.is_lossy contents name.now x × TakesAnnex kind request filter colors x before now)
-TakesLinesOf request colors contents before now _ _ = Unit {0}
+-- the heading of a text, if headings are asked for
+abbrev pub heading_of : Request → Bool → List ℕ → List ℕ
+heading_of request is_first name = if request.has_headings then heading request.format is_first name else []
+
+-- A sink took the heading of the text with this name, and then its lines. `count` texts came before it.
+abbrev pub TakesText : Kind → Request → Option Filter → Colors → Option (List ℕ → List ℕ) → ℕ → List ℕ → Option (List ℕ) → Option (List ℕ) → Type 0
+TakesText kind request filter colors texts count name before now =
+    (between : Option (List ℕ)) × Takes before between (heading_of request (count == 0) name)
+    × ((x : List ℕ) × IsTextOf request.is_lossy texts name x × TakesAnnex kind request filter colors x between now)
+
+-- A sink took one text after the other, of these names and no others. `takes` says what taking one does, behind so many.
+pub data AreTakenInTurn (takes : ℕ → List ℕ → Option (List ℕ) → Option (List ℕ) → Type 0) (before : Option (List ℕ)) :
+    List (Bor (List ℕ)) → Option (List ℕ) → Type 0 where
+  NoText : AreTakenInTurn takes before [] before
+  OneText : (names : List (Bor (List ℕ))) (name : Bor (List ℕ)) (between now : Option (List ℕ)) →
+      AreTakenInTurn takes before names between → takes (length names) name.now between now →
+      AreTakenInTurn takes before (names ++ name ∷ []) now
+
+-- With a built-in table a sink took these lines of the texts that the request names, through the filter that is asked for. `files` says what
+-- the filter's file holds, and `texts` what the texts' do.
+abbrev pub TakesLinesOf : Request → Colors → Option (List ℕ → List ℕ) → Option (List ℕ → List ℕ) → Option (List ℕ) → Option (List ℕ) → Task
+    → Basis → Type 0
+TakesLinesOf request colors files texts before now Segment (BuiltIn kind) =
+    (filter : Option Filter) × IsFilterOf files request.filtering filter
+    × AreTakenInTurn (TakesText kind request filter colors texts) before request.names.items now
+TakesLinesOf request colors files texts before now _ _ = Unit {0}

@@ -10,6 +10,14 @@ IsHeld contents name bytes = name ≢ codes "-" → IfSome contents (λ held. by
 abbrev pub text_in : Bool → List ℕ → List ℕ
 text_in is_lossy bytes = chars (if is_lossy then utf8_lossy bytes else bytes)
 
+-- the reader gives these bytes, if that is known
+abbrev pub IsGiven : Option (List ℕ) → List ℕ → Type 0
+IsGiven remaining bytes = IfSome remaining (λ held. bytes ≡ held)
+
+-- the text is that of the bytes which the reader gives
+abbrev pub IsTextGiven : Bool → Option (List ℕ) → List ℕ → Type 0
+IsTextGiven is_lossy remaining x = (bytes : List ℕ) × IsGiven remaining bytes × (x ≡ text_in is_lossy bytes)
+
 -- the text is that of the bytes which the file of this name holds
 abbrev pub IsTextOf : Bool → Option (List ℕ → List ℕ) → List ℕ → List ℕ → Type 0
 IsTextOf is_lossy contents name x = (bytes : List ℕ) × IsHeld contents name bytes × (x ≡ text_in is_lossy bytes)

@@ -4,5 +4,7 @@ pub mod Lines
 pub mod Contents
 pub mod Filters
 pub mod Segments
+pub mod Windows
+pub mod Headings
 pub mod RuleFiles
 pub mod Annexes

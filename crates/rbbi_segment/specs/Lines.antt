@@ -79,24 +79,34 @@ tail Json = codes "\"}\n"
 tail Plain = codes "\n"
 tail Null = 0 ∷ []
 
--- A segment of the text by itself: in a line where it starts and ends in the unit, its status, and its characters in quotes, or its
--- characters as they are.
+-- A segment by itself: in a line where it starts and ends in the unit, its status, and its characters in quotes, or its characters as
+-- they are.
 abbrev pub line : Style → List ℕ → Segment → List ℕ
-line style x segment =
-    head style.layout style.colors segment ++ shown_all (within style.layout) (slice_range x segment.start segment.end) ++ tail style.layout
+line style characters segment =
+    head style.layout style.colors segment ++ shown_all (within style.layout) characters ++ tail style.layout
 
--- the line of a segment that is asked for
+-- the line of a segment with these characters, if it is asked for
 abbrev pub line_if_wanted : Style → List ℕ → Segment → List ℕ
-line_if_wanted style x segment = if wants style.wanted x segment then line style x segment else []
+line_if_wanted style characters segment = if wants style.wanted characters segment.status then line style characters segment else []
 
 -- a segment was taken: its line was written or waits
-pub record TakesLine (old : Quoted) (before : Option (List ℕ)) (x : List ℕ) (segment : Segment) (new : Quoted) (now : Option (List ℕ)) : Type 0 where
+pub record TakesLine (old : Quoted) (before : Option (List ℕ)) (characters : List ℕ) (segment : Segment) (new : Quoted)
+    (now : Option (List ℕ)) : Type 0 where
   pub same : new.style ≡ old.style
-  pub put : IsBuffered before now (old.made.items ++ line_if_wanted old.style x segment) new.made.items
+  pub put : IsBuffered before now (old.made.items ++ line_if_wanted old.style characters segment) new.made.items
+
+-- what waited was written, or waits still
+pub record PutsWaiting (old : Quoted) (before : Option (List ℕ)) (new : Quoted) (now : Option (List ℕ)) : Type 0 where
+  pub same : new.style ≡ old.style
+  pub put : IsBuffered before now old.made.items new.made.items
+
+-- the line of a segment of the text, if it is asked for
+abbrev pub line_of : Style → List ℕ → Segment → List ℕ
+line_of style x segment = line_if_wanted style (slice_range x segment.start segment.end) segment
 
 -- the lines of all segments that are asked for
 abbrev pub lines : Style → List ℕ → List Segment → List ℕ
-lines style x segments = flat_map (line_if_wanted style x) segments
+lines style x segments = flat_map (line_of style x) segments
 
 -- the lines of all segments in a format that prints each by itself
 abbrev pub lines_in : Format → Wanted → Colors → List ℕ → List Segment → Option (List ℕ)

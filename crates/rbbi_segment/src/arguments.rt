@@ -66,6 +66,8 @@ const NO_RULES: &[u8] =
     b"error: --explain needs --rules, since a table doesn't have the rules that it \
     was made of; those of the built-in tables are in the repository's folder rules/\n";
 
+const ONE_FILE: &[u8] = b"error: --explain takes one file\n";
+
 const BAD_PLACE: &[u8] = b"error: --explain takes a place, which is a number, as 100\n";
 
 /// What an option takes.
@@ -93,7 +95,7 @@ struct Described {
     help: &'static str,
 }
 
-static OPTIONS: [Described; 21] = [
+static OPTIONS: [Described; 22] = [
     Described {
         name: "by",
         short: Some('b'),
@@ -255,6 +257,13 @@ static OPTIONS: [Described; 21] = [
         help: "Replace what isn't UTF-8 by U+FFFD, and say how often",
     },
     Described {
+        name: "no-filename",
+        short: None,
+        takes: Takes::Nothing,
+        conflicts: &["check", "lint", "explain"],
+        help: "Don't head the segments of each of several files by its name",
+    },
+    Described {
         name: "explain",
         short: None,
         takes: Takes::Optional("PLACE"),
@@ -300,7 +309,9 @@ fn option_of<'a>(alloc: Global, described: &Described) -> Result<Arg<'a>, AllocE
 fn command<'a>(alloc: Global) -> Result<Command<'a>, AllocError> {
     let file = Arg::new(alloc, "file")
         .value_name("FILE")
-        .help("The text; standard input if it is - or missing");
+        .num_args(1..)
+        .action(ArgAction::Append)
+        .help("The texts; standard input if one is -, or none is given");
     let mut command = Command::new(alloc, "segment")
         .no_binary_name(true)
         .version(VERSION)
@@ -443,13 +454,22 @@ fn color_of(matches: &ArgMatches<'_>) -> When {
     }
 }
 
-/// The name of the text. It may come right after `--explain`, since it is no number.
-fn file_of<'a>(matches: &ArgMatches<'a>) -> &'a str {
-    match (matches.get_str("file"), matches.get_str("explain")) {
-        (Some(file), _) => file,
-        (None, Some(file)) if !file.is_empty() && place_of(file).is_none() => file,
-        _ => "-",
+/// The names of the texts. One may come right after `--explain`, since it is no number.
+fn names_of<'a>(alloc: Global, matches: &ArgMatches<'a>) -> Result<Vec<&'a str>, Failure> {
+    let mut names = Vec::new(alloc);
+    for name in matches.get_strs("file").unwrap_or(&[]) {
+        names.push(*name)?;
     }
+    if names.is_empty() {
+        names.push(match matches.get_str("explain") {
+            Some(file) if !file.is_empty() && place_of(file).is_none() => file,
+            _ => "-",
+        })?;
+    }
+    if names.len() > 1 && matches.get_str("explain").is_some() {
+        return Err(bad_value(alloc, ONE_FILE));
+    }
+    Ok(names)
 }
 
 /// The place that a text names.
@@ -495,7 +515,7 @@ fn task_of<'a>(matches: &ArgMatches<'a>, why: Option<u32>) -> (Task<'a>, Basis<'
     if let Some(rules) = matches.get_str("check") {
         return (Task::Check, Basis::Rules(rules));
     }
-    let task = Task::Segment(file_of(matches));
+    let task = Task::Segment;
     if let Some(rules) = matches.get_str("rules") {
         return (task, Basis::Rules(rules));
     }
@@ -580,8 +600,12 @@ pub(crate) fn request_of<'a>(
     {
         return Err(bad_value(alloc, NEEDS_RULES));
     }
+    let names = names_of(alloc, &matches)?;
+    let has_headings = names.len() > 1 && !matches.get_flag("no-filename");
     Ok(Request {
         task,
+        names,
+        has_headings,
         basis,
         properties,
         ignore_dictionary,

@@ -33,7 +33,7 @@ pub(crate) fn properties_of<F: Files, R: Read, L: Ledger>(
         let bytes = read(alloc, name, PROPERTIES_LIMIT, colors, files, input)?;
         let (label, place) = match properties.add(property.name, bytes.bytes(steps)) {
             Ok(()) => continue,
-            Err(PropErr::NotUtf8(at)) => ("NotUtf8", Place::Byte(at)),
+            Err(PropErr::NotUtf8(at)) => ("NotUtf8", Place::Byte(at.into())),
             Err(PropErr::BadRow(line)) => ("BadRow", Place::Line(line)),
             Err(PropErr::Memory) => return Err(Failure::Memory),
         };
@@ -71,7 +71,7 @@ fn spelled(alloc: Global, name: &str, bytes: &[u8], colors: Colors) -> Result<Ta
         Err(FileErr::Memory) => Err(Failure::Memory),
         Err(error) => {
             let place = match error.place() {
-                Some(at) => Place::Byte(at),
+                Some(at) => Place::Byte(at.into()),
                 None => Place::Whole,
             };
             Err(fault_of(alloc, IS_REFUSED, name, error.label(), place, colors))

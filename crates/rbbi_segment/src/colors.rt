@@ -2,6 +2,7 @@
 ghost use Rattle.std.specs.Prelude.{◌≡◌, ◌++◌, OnOk};
 ghost use Rattle.rbbi_segment.specs.Lines.{color_begin, color_end, colors_for};
 
+use crate::streaming::Sizes;
 use rbbi_text::append;
 use std::alloc::AllocError;
 
@@ -24,6 +25,8 @@ pub struct Surroundings {
     /// Whether no colours are asked for: the variable `NO_COLOR` is set, and not empty, or `TERM`
     /// is `dumb`.
     pub no_color: bool,
+    /// How much of a text is held.
+    pub sizes: Sizes,
 }
 
 /// Whether there are colours.

@@ -1,6 +1,8 @@
 //! Characters as they are printed: those that would do something to a terminal as escapes.
-ghost use Rattle.std.specs.Prelude.{◌≡◌, ◌++◌, OnOk, encode_utf8};
+ghost use Rattle.std.specs.Prelude.{◌≡◌, ◌++◌, OnOk, chars, encode_utf8};
+ghost use Rattle.rbbi_segment.specs.declared.escapes.Within.TheVariants.{Nothing};
 ghost use Rattle.rbbi_segment.specs.Escapes as spec;
+ghost use Rattle.rbbi_segment.specs.Lines.{shown_all};
 
 use rbbi_text::append;
 use std::alloc::AllocError;
@@ -135,10 +137,24 @@ pub(crate) fn append_plain(c: char, out: &mut Vec<u8>) -> Result<(), AllocError>
     append(c.encode_utf8(&mut bytes).as_bytes(), out)
 }
 
-/// Appends a name that stands in no quotes.
-pub(crate) fn append_name(name: &str, out: &mut Vec<u8>) -> Result<(), AllocError> {
-    for c in name.chars() {
-        append_character(c, Within::Nothing, out)?;
+/// Appends the characters of a text, or their escapes.
+pub(crate) fn append_characters(
+    text: &str,
+    within: Within,
+    out: &mut Vec<u8>,
+) -> Result<(), AllocError>
+    ensures { OnOk result (out.new.items ≡ out.old.items ++ shown_all within (chars text.now)) }
+{
+    for c in text.chars() {
+        append_character(c, within, out)?;
     }
     Ok(())
+}
+
+/// Appends a name that stands in no quotes.
+pub(crate) fn append_name(name: &str, out: &mut Vec<u8>) -> Result<(), AllocError>
+    ensures { OnOk result (out.new.items ≡ out.old.items
+        ++ shown_all Nothing (chars name.now)) }
+{
+    append_characters(name, Within::Nothing, out)
 }

@@ -1,5 +1,5 @@
 //! Which rules make the segments of a text, and why there is a boundary at a place, or none.
-ghost use Rattle.std.specs.Prelude.{◌<◌, ◌≤◌, length};
+ghost use Rattle.std.specs.Prelude.{◌≡◌, ◌<◌, ◌≤◌, length};
 ghost use Rattle.rbbi_text.specs.Bytes.{most_bytes};
 
 use crate::basis::properties_of;
@@ -7,16 +7,16 @@ use crate::colors::{Colors, Surroundings};
 use crate::escapes::append_name;
 use crate::failure::{Failure, IS_REFUSED};
 use crate::options::{Asked, Basis, Layout, Request, Task};
-use crate::quoted::{Style, put_characters, put_line};
+use crate::quoted::{Style, put_characters, put_line, put_waiting};
 use crate::reading::{RULES_LIMIT, read, read_text};
 use crate::rules::table_of_rules;
-use crate::segments::{Receive, Segment, hand_over};
+use crate::segments::{Progress, Receive, Segment, Span, hand_window};
 use rbbi_builtin::add_asked_for;
 use rbbi_compile::{read_rules, rule_text};
 use rbbi_explain::{Explainer, Explanation, Origin, Part, Reason, RuleText, rule_texts};
 use rbbi_io::{Files, Sink, WriteErr, put_all, put_when_full};
 use rbbi_props::PropTable;
-use rbbi_table::Table;
+use rbbi_table::{FrontPlaces, Table};
 use rbbi_text::{Chars, PlainText, Steps, Unit, append, append_number};
 use std::alloc::{AllocError, Global};
 use std::io::Read;
@@ -94,6 +94,39 @@ fn read_known<'a, F: Files, R: Read, L: Ledger>(
     Ok((table, known))
 }
 
+/// A segment or a part of one in a text that is held whole.
+#[derive(Clone, Copy)]
+struct Piece {
+    start: u32,
+    end: u32,
+    start_offset: u32,
+    end_offset: u32,
+    status: u32,
+}
+
+impl Piece {
+    /// The piece that is this segment.
+    fn of(span: Span, segment: Segment) -> Piece {
+        Piece {
+            start: span.from,
+            end: span.to,
+            start_offset: u32::try_from(segment.start_offset).unwrap_or(u32::MAX),
+            end_offset: u32::try_from(segment.end_offset).unwrap_or(u32::MAX),
+            status: segment.status,
+        }
+    }
+
+    /// Where it stands.
+    fn span(&self) -> Span
+        ensures { result ≡ record { from = self.now.start; to = self.now.end } }
+    {
+        Span {
+            from: self.start,
+            to: self.end,
+        }
+    }
+}
+
 /// How much of the unit the characters between two places take; 0 if they aren't in order within
 /// the text.
 fn units(text: &PlainText, unit: Unit, from: u32, to: u32) -> u32 {
@@ -105,7 +138,7 @@ fn units(text: &PlainText, unit: Unit, from: u32, to: u32) -> u32 {
 }
 
 /// Whether a place of the unit lies between two characters of a segment.
-fn is_between_characters(text: &PlainText, unit: Unit, segment: Segment, place: u32) -> bool {
+fn is_between_characters(text: &PlainText, unit: Unit, segment: Piece, place: u32) -> bool {
     let mut offset = segment.start_offset;
     for at in segment.start..segment.end {
         if offset >= place {
@@ -150,14 +183,15 @@ impl Explaining<'_> {
     fn is_asked_for<L: Ledger>(
         &self,
         text: &PlainText,
-        segment: Segment,
+        span: Span,
+        segment: Piece,
         steps: &mut Steps<L>,
     ) -> bool
-        requires some { segment.start < segment.end }
-        requires within { segment.end ≤ length text.now }
+        requires some { span.from < span.to }
+        requires within { span.to ≤ length text.now }
     {
         match self.asked {
-            Asked::All => self.style.wanted.has(text, segment, steps),
+            Asked::All => self.style.wanted.has(text, span, segment.status, steps),
             Asked::At(place) => segment.start_offset < place && place <= segment.end_offset,
         }
     }
@@ -167,7 +201,7 @@ impl Explaining<'_> {
         &mut self,
         place: u32,
         text: &PlainText,
-        segment: Segment,
+        segment: Piece,
         reason: Reason,
     ) -> Result<(), AllocError> {
         let made = &mut self.made;
@@ -198,7 +232,7 @@ impl Explaining<'_> {
 
     /// Whether a part is to be shown: with a place, only those that have it inside, unless it is
     /// the end of the segment.
-    fn shows(&self, segment: Segment, part: Segment) -> bool {
+    fn shows(&self, segment: Piece, part: Piece) -> bool {
         match self.asked {
             Asked::At(place) if place != segment.end_offset => {
                 part.start_offset < place && place < part.end_offset
@@ -211,7 +245,7 @@ impl Explaining<'_> {
     fn put_part<K: Sink, L: Ledger>(
         &mut self,
         text: &PlainText,
-        part: Segment,
+        part: Piece,
         rule: u32,
         out: &mut K,
         steps: &mut Steps<L>,
@@ -224,7 +258,14 @@ impl Explaining<'_> {
         append(b" ", &mut self.made)?;
         append_number(part.end_offset, &mut self.made)?;
         append(b" \"", &mut self.made)?;
-        put_characters(self.style.layout, text, part, out, &mut self.made, steps)?;
+        put_characters(
+            self.style.layout,
+            text,
+            part.span(),
+            out,
+            &mut self.made,
+            steps,
+        )?;
         append(b"\" by ", &mut self.made)?;
         self.known.append_place(rule, &mut self.made)?;
         self.known.append_text(rule, &mut self.made)?;
@@ -236,7 +277,7 @@ impl Explaining<'_> {
     fn put_parts<K: Sink, L: Ledger>(
         &mut self,
         text: &PlainText,
-        segment: Segment,
+        segment: Piece,
         parts: &[Part],
         out: &mut K,
         steps: &mut Steps<L>,
@@ -250,7 +291,7 @@ impl Explaining<'_> {
             }
             offset = offset.saturating_add(units(text, self.unit, at, start));
             at = start;
-            let shown = Segment {
+            let shown = Piece {
                 start,
                 end,
                 start_offset: offset,
@@ -268,7 +309,7 @@ impl Explaining<'_> {
     fn append_reason(
         &mut self,
         text: &PlainText,
-        segment: Segment,
+        segment: Piece,
         reason: Reason,
     ) -> Result<(), AllocError> {
         let made = &mut self.made;
@@ -292,7 +333,7 @@ impl Explaining<'_> {
     fn append_origin(
         &mut self,
         text: &PlainText,
-        segment: Segment,
+        segment: Piece,
         origin: Origin,
         last: Option<u32>,
     ) -> Result<(), AllocError> {
@@ -314,7 +355,7 @@ impl Explaining<'_> {
     fn append_origins(
         &mut self,
         text: &PlainText,
-        segment: Segment,
+        segment: Piece,
         explanation: &Explanation,
     ) -> Result<(), AllocError> {
         let last = explanation.parts.last().map(|part| part.rule);
@@ -346,28 +387,35 @@ impl Receive for Explaining<'_> {
     fn take<K: Sink, L: Ledger>(
         &mut self,
         text: &PlainText,
+        span: Span,
         segment: Segment,
         out: &mut K,
         steps: &mut Steps<L>,
     ) -> Result<(), WriteErr> {
-        if !self.is_asked_for(text, segment, steps) {
+        let taken = segment;
+        let segment = Piece::of(span, taken);
+        if !self.is_asked_for(text, span, segment, steps) {
             return Ok(());
         }
         self.is_met = true;
         let explainer = &mut self.known.explainer;
-        let found = explainer.explain(self.alloc, text, segment.start, segment.end, steps)?;
+        let found = explainer.explain(self.alloc, text, span.from, span.to, steps)?;
         let mut is_whole = true;
         if let Asked::At(place) = self.asked {
             self.append_answer(place, text, segment, found.reason)?;
             is_whole = place == segment.end_offset;
         }
-        put_line(self.style, text, segment, out, &mut self.made, steps)?;
+        put_line(self.style, text, span, taken, out, &mut self.made, steps)?;
         self.put_parts(text, segment, found.parts.as_slice(), out, steps)?;
         if is_whole {
             self.append_reason(text, segment, found.reason)?;
             self.append_origins(text, segment, &found)?;
         }
         put_when_full(out, &mut self.made)
+    }
+
+    fn pause<K: Sink>(&mut self, out: &mut K) -> Result<(), WriteErr> {
+        put_waiting(out, &mut self.made)
     }
 
     fn end<K: Sink>(&mut self, out: &mut K) -> Result<(), WriteErr> {
@@ -398,9 +446,10 @@ pub(crate) fn explain<F: Files, R: Read, K: Sink, L: Ledger>(
     out: &mut K,
     steps: &mut Steps<L>,
 ) -> Result<u32, Failure> {
-    let (Task::Segment(name), Basis::Rules(rules)) = (request.task, request.basis) else {
+    let (Task::Segment, Basis::Rules(rules)) = (request.task, request.basis) else {
         return Ok(0);
     };
+    let name = *request.names.first().unwrap_or(&"-");
     let no_color = surroundings.no_color;
     let faults = Colors::new(request.color, surroundings.errors_are_on_terminal, no_color);
     let colors = Colors::new(request.color, surroundings.output_is_terminal, no_color);
@@ -419,16 +468,20 @@ pub(crate) fn explain<F: Files, R: Read, K: Sink, L: Ledger>(
         is_met: false,
         made: Vec::new(alloc),
     };
-    hand_over(
-        alloc,
+    let mut marks = FrontPlaces::new(alloc, &table)?;
+    let _progress = hand_window(
         &table,
         &None,
         &text,
         request.unit,
+        true,
+        &mut marks,
+        Progress::START,
         &mut receiver,
         out,
         steps,
     )?;
+    receiver.end(out)?;
     answer_rest(alloc, &text, request.unit, asked, receiver.is_met, out)?;
     Ok(replaced)
 }

@@ -40,7 +40,7 @@ pub(crate) const OPEN_SET: FaultText = FaultText {
 /// What helps with a table file that is given as a rule file.
 pub(crate) const TABLE_FILE: &str = "This is a table file, which goes to --table.";
 
-static TEXTS: [FaultText; 43] = [
+static TEXTS: [FaultText; 44] = [
     FaultText {
         label: "TooLong",
         cause: "the file is too long",
@@ -214,6 +214,11 @@ static TEXTS: [FaultText; 43] = [
         label: "BadRow",
         cause: "this isn't a row of a property file",
         help: "A row is a code point or a range, and a value, as 0041..005A ; ALetter.",
+    },
+    FaultText {
+        label: "SegmentTooLong",
+        cause: "a segment is too long: it has 4194304 characters or more",
+        help: "Break the text into shorter parts, or by rules that match less.",
     },
     FaultText {
         label: "TooManyChars",

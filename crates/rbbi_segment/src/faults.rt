@@ -8,6 +8,7 @@ use crate::failure::{Failure, HAS_FAULT};
 use crate::fault_texts::{TABLE_FILE, text_of};
 use crate::hints::help_at;
 use crate::missing::missing_at;
+use crate::numbers::append_long;
 use crate::source::{Position, position_of};
 use crate::unknown::{append_advice, cause_of};
 use crate::variables::append_name_advice;
@@ -34,7 +35,7 @@ pub(crate) struct Source<'a> {
 pub(crate) enum Place {
     Whole,
     /// The byte, from 0.
-    Byte(u32),
+    Byte(u64),
     /// The line, from 1.
     Line(u32),
 }
@@ -202,7 +203,7 @@ fn append_of(
     append_cause(label, text.cause, colors, out)?;
     if let Place::Byte(at) = place {
         append(b", at byte ", out)?;
-        append_number(at, out)?;
+        append_long(at, out)?;
     }
     append_help(text.help.as_bytes(), out)
 }

@@ -20,7 +20,7 @@ use std::sync::ledger::Ledger;
 /// What an error of a filter file comes to.
 fn refused(alloc: Global, name: &str, error: LinesErr, colors: Colors) -> Failure {
     let (label, place) = match error {
-        LinesErr::NotUtf8(at) => ("NotUtf8", Place::Byte(at)),
+        LinesErr::NotUtf8(at) => ("NotUtf8", Place::Byte(at.into())),
         LinesErr::BadLine(line) => ("BadLine", Place::Line(line)),
         LinesErr::Memory => return Failure::Memory,
     };

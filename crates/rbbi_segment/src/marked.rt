@@ -5,7 +5,8 @@ use crate::colors::{Color, Colors};
 use crate::escapes::append_plain;
 use crate::only::Wanted;
 use crate::options::Mark;
-use crate::segments::{Receive, Segment};
+use crate::quoted::put_waiting;
+use crate::segments::{Receive, Segment, Span};
 use rbbi_io::{Sink, WriteErr, put_all, put_when_full};
 use rbbi_text::{Chars, PlainText, Steps, append};
 use std::alloc::AllocError;
@@ -44,20 +45,25 @@ impl Receive for Marked<'_> {
     fn take<K: Sink, L: Ledger>(
         &mut self,
         text: &PlainText,
+        span: Span,
         segment: Segment,
         out: &mut K,
         steps: &mut Steps<L>,
     ) -> Result<(), WriteErr> {
-        let is_asked_for = self.wanted.has(text, segment, steps);
+        let is_asked_for = self.wanted.has(text, span, segment.status, steps);
         if is_asked_for || self.was_asked_for {
             self.append_mark()?;
         }
         self.was_asked_for = is_asked_for;
-        for i in segment.start..segment.end {
+        for i in span.from..span.to {
             self.append_character(text.char_at(i, steps))?;
             put_when_full(out, &mut self.made)?;
         }
         Ok(())
+    }
+
+    fn pause<K: Sink>(&mut self, out: &mut K) -> Result<(), WriteErr> {
+        put_waiting(out, &mut self.made)
     }
 
     fn end<K: Sink>(&mut self, out: &mut K) -> Result<(), WriteErr> {

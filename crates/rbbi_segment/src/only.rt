@@ -1,8 +1,8 @@
 //! Which segments are asked for.
-ghost use Rattle.std.specs.Prelude.{◌≡◌, ◌<◌, ◌≤◌, length};
+ghost use Rattle.std.specs.Prelude.{◌≡◌, ◌<◌, ◌≤◌, length, slice_range};
 ghost use Rattle.rbbi_segment.specs.Wanted as spec;
 
-use crate::segments::Segment;
+use crate::segments::Span;
 use rbbi_text::{Chars, PlainText, Steps, decimal};
 use std::sync::ledger::Ledger;
 
@@ -64,19 +64,19 @@ pub(crate) struct Wanted {
 }
 
 impl Wanted {
-    /// Whether the segment of the text is asked for.
+    /// Whether a segment with this status is asked for, which stands there in the text.
     pub(crate) fn has<L: Ledger>(
         &self,
         text: &PlainText,
-        segment: Segment,
+        span: Span,
+        status: u32,
         steps: &mut Steps<L>,
     ) -> bool
-        requires some { segment.start < segment.end }
-        requires within { segment.end ≤ length text.now }
-        ensures { result ≡ spec.wants self.now text.now segment }
+        requires some { span.from < span.to }
+        requires within { span.to ≤ length text.now }
+        ensures { result ≡ spec.wants self.now (slice_range text.now span.from span.to) status }
     {
-        self.statuses.has(segment.status)
-            && (!self.only_words || is_word(text, segment.start, segment.end, steps))
+        self.statuses.has(status) && (!self.only_words || is_word(text, span.from, span.to, steps))
     }
 }
 
@@ -84,7 +84,7 @@ impl Wanted {
 fn is_word<L: Ledger>(text: &PlainText, start: u32, end: u32, steps: &mut Steps<L>) -> bool
     requires some { start < end }
     requires within { end ≤ length text.now }
-    ensures { result ≡ spec.is_word text.now start end }
+    ensures { result ≡ spec.is_word (slice_range text.now start end) }
 {
     for i in start..end {
         if text.char_at(i, steps).is_alphanumeric() {

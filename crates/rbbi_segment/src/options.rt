@@ -59,8 +59,8 @@ pub(crate) enum Task<'a> {
     /// Print what changes nothing in the rule file of this name, or why the rules in a line, from
     /// 1, are needed.
     Lint(&'a str, Option<u32>),
-    /// Print the segments of the text of this name, or of standard input if it is `-`.
-    Segment(&'a str),
+    /// Print the segments of each text that is named.
+    Segment,
 }
 
 /// What changes which boundaries are reported.
@@ -95,6 +95,10 @@ pub(crate) enum Asked {
 #[derive(Drop)]
 pub(crate) struct Request<'a> {
     pub(crate) task: Task<'a>,
+    /// The names of the texts; `-` is the standard input.
+    pub(crate) names: Vec<&'a str>,
+    /// Whether each text is headed by its name.
+    pub(crate) has_headings: bool,
     pub(crate) basis: Basis<'a>,
     pub(crate) properties: Vec<Property<'a>>,
     pub(crate) ignore_dictionary: bool,

@@ -1,12 +1,7 @@
 //! A run of the program.
-ghost use Rattle.std.specs.Prelude.{ℕ, List, Option, IfSome, OnOk};
-ghost use Rattle.rbbi_io.specs.Sinks.{Takes};
-ghost use Rattle.rbbi_segment_tables.specs.Annexes.{GivesAnnex};
-ghost use Rattle.rbbi_segment_tables.specs.declared.loading.Kind.{Kind};
-ghost use Rattle.rbbi_segment.specs.Annexes.{TakesAnnex, TakesLinesOf};
-ghost use Rattle.rbbi_segment.specs.Contents.{IsTextOf};
-ghost use Rattle.rbbi_segment.specs.Lines.{colors_for, lines, lines_in};
-ghost use Rattle.rbbi_segment.specs.Segments.{segments};
+ghost use Rattle.std.specs.Prelude.{OnOk};
+ghost use Rattle.rbbi_segment.specs.Annexes.{TakesLinesOf};
+ghost use Rattle.rbbi_segment.specs.Lines.{colors_for};
 
 use crate::arguments::request_of;
 use crate::basis::table_of;
@@ -14,189 +9,109 @@ use crate::colors::{Colors, Surroundings};
 use crate::explaining::explain;
 use crate::failure::{Failure, IS_CLOSED, IS_REFUSED};
 use crate::faults::{append_reason, unread};
-use crate::filters::{filter_of, searches_texts};
+use crate::filters::filter_of;
 use crate::linting::lint_file;
-use crate::marked::Marked;
-use crate::options::{Format, Request, Task};
-use crate::quoted::{Quoted, Style};
-use crate::reading::{read_text, say_replaced};
-use crate::segments::hand_over;
+use crate::named::put_texts;
+use crate::options::{Request, Task};
+use crate::reading::say_replaced;
+use crate::streaming::Origin;
 use crate::system::System;
-use crate::tally::Tally;
-use crate::wrapped::Wrapped;
-use rbbi_filter::Filter;
-use rbbi_io::{Files, Sink, WriteErr, put_all};
-use rbbi_table::Table;
-use rbbi_text::{PlainText, Steps, Unit, append};
+use rbbi_io::{Files, Sink, put_all};
+use rbbi_text::{Steps, append};
 use std::alloc::{AllocError, Global};
-use std::collections::BTreeMap;
 use std::io;
 use std::io::{ErrorKind, Read};
 use std::sync::ledger::Ledger;
 
-/// Prints by itself each segment of a text by a table that is asked for, with offsets in the unit.
-fn put_lines<K: Sink, L: Ledger>(
-    alloc: Global,
-    style: Style,
-    table: &Table,
-    filter: &Option<Filter>,
-    text: &PlainText,
-    unit: Unit,
-    out: &mut K,
-    steps: &mut Steps<L>,
-) -> Result<(), WriteErr>
-    ensures { OnOk result (Takes (K.taken out.old) (K.taken out.new) (lines style text.now
-        (segments unit filter.now table.now text.now))) }
-{
-    let made = Vec::new(alloc);
-    let mut receiver = Quoted { style, made };
-    hand_over(alloc, table, filter, text, unit, &mut receiver, out, steps)
-}
-
-/// Prints the segments of a text by a table and a filter, in the format that is asked for.
-fn put_segments<K: Sink, L: Ledger>(
-    alloc: Global,
-    request: &Request<'_>,
-    table: &Table,
-    filter: &Option<Filter>,
-    text: &PlainText,
-    colors: Colors,
-    out: &mut K,
-    steps: &mut Steps<L>,
-) -> Result<(), WriteErr>
-    ensures { IfSome (lines_in request.now.format request.now.wanted colors text.now
-        (segments request.now.unit filter.now table.now text.now))
-        (λ bytes. OnOk result (Takes (K.taken out.old) (K.taken out.new) bytes)) }
-{
-    let unit = request.unit;
-    let chars = Unit::Chars;
-    let wanted = request.wanted;
-    match request.format {
-        Format::Each(layout) => {
-            let style = Style {
-                layout,
-                wanted,
-                colors,
-            };
-            put_lines(alloc, style, table, filter, text, unit, out, steps)
-        }
-        Format::Marked(mark) => {
-            let mut receiver = Marked {
-                mark,
-                wanted,
-                colors,
-                was_asked_for: false,
-                made: Vec::new(alloc),
-            };
-            hand_over(alloc, table, filter, text, chars, &mut receiver, out, steps)
-        }
-        Format::Lines(width) => {
-            let mut receiver = Wrapped::new(alloc, width);
-            hand_over(alloc, table, filter, text, chars, &mut receiver, out, steps)
-        }
-        Format::Count => {
-            let counts = BTreeMap::new(alloc);
-            let made = Vec::new(alloc);
-            let mut receiver = Tally {
-                wanted,
-                counts,
-                made,
-            };
-            hand_over(alloc, table, filter, text, chars, &mut receiver, out, steps)
-        }
-    }
-}
-
-/// Prints the segments of the text with this name by a table. It answers how many sequences of its
-/// bytes were replaced.
-fn segment_text<F: Files, R: Read, K: Sink, L: Ledger>(
-    alloc: Global,
-    request: &Request<'_>,
-    table: &Table,
-    filter: &Option<Filter>,
-    name: &str,
-    faults: Colors,
-    colors: Colors,
-    files: &mut F,
-    input: &mut R,
-    out: &mut K,
-    steps: &mut Steps<L>,
-) -> Result<u32, Failure>
-    ensures { (kind : Kind) → GivesAnnex kind table.now → OnOk result ((x : List ℕ)
-        × IsTextOf request.now.is_lossy (F.contents files.old) name.now x
-        × TakesAnnex kind request.now filter.now colors x (K.taken out.old) (K.taken out.new)) }
-{
-    searches_texts(filter);
-    let (text, replaced) = read_text(alloc, name, request.is_lossy, faults, files, input, steps)?;
-    put_segments(alloc, request, table, filter, &text, colors, out, steps)?;
-    Ok(replaced)
-}
-
-/// Does what a request asks for. It answers how many sequences of the text's bytes were replaced.
+/// Does what a request asks for. It answers how many sequences of each text's bytes were replaced.
 ///
 /// With a built-in table, and in a format that prints each segment by itself, it prints those of
-/// the text by UAX #29, or by UAX #14 for lines.
-fn perform<F: Files, R: Read, K: Sink, L: Ledger>(
+/// the texts by UAX #29, or by UAX #14 for lines.
+fn perform<F: Files, R: Read, K: Sink, S: System, L: Ledger>(
     alloc: Global,
     request: &Request<'_>,
     surroundings: Surroundings,
+    system: &S,
     files: &mut F,
     input: &mut R,
     out: &mut K,
     steps: &mut Steps<L>,
-) -> Result<u32, Failure>
+) -> Result<Vec<u32>, Failure>
     ensures { OnOk result (TakesLinesOf request.now (colors_for request.now.color
         surroundings.output_is_terminal surroundings.no_color) (F.contents files.old)
-        (K.taken out.old) (K.taken out.new) request.now.task request.now.basis) }
+        (S.contents system.now) (K.taken out.old) (K.taken out.new) request.now.task
+        request.now.basis) }
 {
     let no_color = surroundings.no_color;
     let faults = Colors::new(request.color, surroundings.errors_are_on_terminal, no_color);
     let table = table_of(alloc, request, faults, files, input, steps)?;
     let filter = filter_of(alloc, request.filtering, faults, files, input, steps)?;
     let colors = Colors::new(request.color, surroundings.output_is_terminal, no_color);
+    let origin = Origin {
+        alloc,
+        name: "-",
+        colors: faults,
+        sizes: surroundings.sizes,
+    };
     match request.task {
-        Task::Check => Ok(0),
-        Task::Lint(_, _) => Ok(0),
-        Task::Segment(name) => segment_text(
-            alloc, request, &table, &filter, name, faults, colors, files, input, out, steps,
+        Task::Check => Ok(Vec::new(alloc)),
+        Task::Lint(_, _) => Ok(Vec::new(alloc)),
+        Task::Segment => put_texts(
+            origin, request, &table, &filter, system, input, colors, out, steps,
         ),
     }
 }
 
 /// Does what a request asks for, explains it, or looks at its rule file. It answers how many
 /// sequences of the text's bytes were replaced.
-fn answer<F: Files, R: Read, K: Sink, L: Ledger>(
+fn answer<F: Files, R: Read, K: Sink, S: System, L: Ledger>(
     alloc: Global,
     request: &Request<'_>,
     surroundings: Surroundings,
+    system: &S,
     files: &mut F,
     input: &mut R,
     out: &mut K,
     steps: &mut Steps<L>,
-) -> Result<u32, Failure> {
+) -> Result<Vec<u32>, Failure> {
     match (request.task, request.explain) {
-        (Task::Lint(name, why), _) => lint_file(
+        (Task::Lint(name, why), _) => {
+            lint_file(
+                alloc,
+                request,
+                name,
+                why,
+                surroundings,
+                files,
+                input,
+                out,
+                steps,
+            )?;
+            Ok(Vec::new(alloc))
+        }
+        (_, Some(asked)) => {
+            let replaced = explain(
+                alloc,
+                request,
+                asked,
+                surroundings,
+                files,
+                input,
+                out,
+                steps,
+            )?;
+            Ok(vec![in alloc; replaced; 1]?)
+        }
+        (_, None) => perform(
             alloc,
             request,
-            name,
-            why,
             surroundings,
+            system,
             files,
             input,
             out,
             steps,
         ),
-        (_, Some(asked)) => explain(
-            alloc,
-            request,
-            asked,
-            surroundings,
-            files,
-            input,
-            out,
-            steps,
-        ),
-        (_, None) => perform(alloc, request, surroundings, files, input, out, steps),
     }
 }
 
@@ -278,9 +193,18 @@ pub fn segment<F: Files, R: Read, K: Sink, E: Sink, S: System, L: Ledger>(
         Ok(request) => request,
         Err(failure) => return tell(alloc, failure, system, out, errors),
     };
-    match answer(alloc, &request, surroundings, files, input, out, steps) {
+    match answer(
+        alloc,
+        &request,
+        surroundings,
+        system,
+        files,
+        input,
+        out,
+        steps,
+    ) {
         Ok(replaced) => {
-            say_replaced(alloc, &request.task, replaced, errors);
+            say_replaced(alloc, &request.names, &replaced, errors);
             0
         }
         Err(failure) => tell(alloc, failure, system, out, errors),

@@ -5,9 +5,10 @@ ghost use Rattle.rbbi_segment.specs.Lines as spec;
 
 use crate::colors::{Color, Colors};
 use crate::escapes::{Within, append_character};
+use crate::numbers::append_long;
 use crate::only::Wanted;
 use crate::options::Layout;
-use crate::segments::{Receive, Segment};
+use crate::segments::{Receive, Segment, Span};
 use rbbi_io::{Sink, WriteErr, put_all, put_when_full};
 use rbbi_text::{Chars, PlainText, Steps, append, append_number};
 use std::alloc::AllocError;
@@ -33,9 +34,9 @@ pub(crate) struct Quoted {
 fn append_plain_head(segment: Segment, out: &mut Vec<u8>) -> Result<(), AllocError>
     ensures { OnOk result (out.new.items ≡ out.old.items ++ spec.plain_head segment) }
 {
-    append_number(segment.start_offset, out)?;
+    append_long(segment.start_offset, out)?;
     append(b" ", out)?;
-    append_number(segment.end_offset, out)?;
+    append_long(segment.end_offset, out)?;
     append(b" ", out)?;
     append_number(segment.status, out)
 }
@@ -45,9 +46,9 @@ fn append_json_head(segment: Segment, out: &mut Vec<u8>) -> Result<(), AllocErro
     ensures { OnOk result (out.new.items ≡ out.old.items ++ spec.json_head segment) }
 {
     append(b"{\"start\":", out)?;
-    append_number(segment.start_offset, out)?;
+    append_long(segment.start_offset, out)?;
     append(b",\"end\":", out)?;
-    append_number(segment.end_offset, out)?;
+    append_long(segment.end_offset, out)?;
     append(b",\"status\":", out)?;
     append_number(segment.status, out)?;
     append(b",\"text\":\"", out)
@@ -102,19 +103,19 @@ fn within(layout: Layout) -> Within
 pub(crate) fn put_characters<K: Sink, L: Ledger>(
     layout: Layout,
     text: &PlainText,
-    segment: Segment,
+    span: Span,
     out: &mut K,
     made: &mut Vec<u8>,
     steps: &mut Steps<L>,
 ) -> Result<(), WriteErr>
-    requires some { segment.start < segment.end }
-    requires within { segment.end ≤ length text.now }
+    requires some { span.from < span.to }
+    requires within { span.to ≤ length text.now }
     ensures { OnOk result (IsBuffered (K.taken out.old) (K.taken out.new) (made.old.items
         ++ spec.shown_all (spec.within layout)
-        (slice_range text.now segment.start segment.end)) made.new.items) }
+        (slice_range text.now span.from span.to)) made.new.items) }
 {
     let within = within(layout);
-    for i in segment.start..segment.end {
+    for i in span.from..span.to {
         append_character(text.char_at(i, steps), within, made)?;
         put_when_full(out, made)?;
     }
@@ -125,41 +126,59 @@ pub(crate) fn put_characters<K: Sink, L: Ledger>(
 pub(crate) fn put_line<K: Sink, L: Ledger>(
     style: Style,
     text: &PlainText,
+    span: Span,
     segment: Segment,
     out: &mut K,
     made: &mut Vec<u8>,
     steps: &mut Steps<L>,
 ) -> Result<(), WriteErr>
-    requires some { segment.start < segment.end }
-    requires within { segment.end ≤ length text.now }
+    requires some { span.from < span.to }
+    requires within { span.to ≤ length text.now }
     ensures { OnOk result (IsBuffered (K.taken out.old) (K.taken out.new) (made.old.items
-        ++ spec.line style text.now segment) made.new.items) }
+        ++ spec.line style (slice_range text.now span.from span.to) segment) made.new.items) }
 {
     append_head(style, segment, made)?;
-    put_characters(style.layout, text, segment, out, made, steps)?;
+    put_characters(style.layout, text, span, out, made, steps)?;
     append_tail(style.layout, made)?;
     put_when_full(out, made)
 }
 
+/// Puts the bytes that wait, and then none wait.
+pub(crate) fn put_waiting<K: Sink>(out: &mut K, made: &mut Vec<u8>) -> Result<(), WriteErr>
+    ensures { OnOk result (IsBuffered (K.taken out.old) (K.taken out.new)
+        made.old.items made.new.items) }
+{
+    put_all(out, made)?;
+    made.clear();
+    Ok(())
+}
+
 impl Receive for Quoted {
     ghost use Rattle.rbbi_io.specs.Sinks.{Takes};
-    ghost use Rattle.rbbi_segment.specs.Lines.{TakesLine};
+    ghost use Rattle.rbbi_segment.specs.Lines.{TakesLine, PutsWaiting};
 
     ghost takes = { TakesLine };
+
+    ghost pauses = { PutsWaiting };
 
     ghost ends = { λ last before now. Takes before now last.made.items };
 
     fn take<K: Sink, L: Ledger>(
         &mut self,
         text: &PlainText,
+        span: Span,
         segment: Segment,
         out: &mut K,
         steps: &mut Steps<L>,
     ) -> Result<(), WriteErr> {
-        if !self.style.wanted.has(text, segment, steps) {
+        if !self.style.wanted.has(text, span, segment.status, steps) {
             return Ok(());
         }
-        put_line(self.style, text, segment, out, &mut self.made, steps)
+        put_line(self.style, text, span, segment, out, &mut self.made, steps)
+    }
+
+    fn pause<K: Sink>(&mut self, out: &mut K) -> Result<(), WriteErr> {
+        put_waiting(out, &mut self.made)
     }
 
     fn end<K: Sink>(&mut self, out: &mut K) -> Result<(), WriteErr> {

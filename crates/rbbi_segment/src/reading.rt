@@ -9,7 +9,6 @@ use crate::colors::Colors;
 use crate::escapes::append_name;
 use crate::failure::{Failure, IS_REFUSED};
 use crate::faults::{Place, fault_of};
-use crate::options::Task;
 use rbbi_io::{Files, ReadErr, Sink, put_all, read_at_most};
 use rbbi_text::{PlainText, Raw, RawErr, Steps, TextErr, append, append_number};
 use std::alloc::{AllocError, Global};
@@ -29,7 +28,7 @@ pub(crate) const TABLE_LIMIT: u64 = 100_663_296;
 pub(crate) const FILTER_LIMIT: u64 = 65_536;
 
 /// The most bytes of a text.
-const TEXT_LIMIT: u64 = 67_108_864;
+pub(crate) const TEXT_LIMIT: u64 = 67_108_864;
 
 /// All bytes of the file of this name, at most `limit`, or of the standard input if it is `-`. What
 /// the files hold stays.
@@ -80,7 +79,7 @@ fn strict_text(alloc: Global, name: &str, bytes: &Raw, colors: Colors) -> Result
 {
     let (label, place) = match PlainText::from_raw(alloc, bytes) {
         Ok(text) => return Ok(text),
-        Err(RawErr::NotUtf8(at)) => ("NotUtf8", Place::Byte(at)),
+        Err(RawErr::NotUtf8(at)) => ("NotUtf8", Place::Byte(at.into())),
         Err(RawErr::TooManyChars) => ("TooManyChars", Place::Whole),
         Err(RawErr::Memory) => return Err(Failure::Memory),
     };
@@ -103,7 +102,7 @@ fn lossy_text(alloc: Global, name: &str, bytes: &[u8], colors: Colors) -> Result
 }
 
 /// How many sequences of the bytes aren't UTF-8, each as long as it could begin a character.
-fn count_replaced(bytes: &[u8]) -> u32 {
+pub(crate) fn count_replaced(bytes: &[u8]) -> u32 {
     let mut count: u32 = 0;
     for chunk in bytes.utf8_chunks() {
         if !chunk.invalid().is_empty() {
@@ -139,14 +138,19 @@ pub(crate) fn read_text<F: Files, R: Read, L: Ledger>(
     }
 }
 
-/// Says on the standard error how many sequences of a text's bytes were replaced, if any were.
-pub(crate) fn say_replaced<E: Sink>(alloc: Global, task: &Task<'_>, replaced: u32, errors: &mut E) {
-    if let Task::Segment(name) = task
-        && replaced > 0
-    {
-        let mut message = Vec::new(alloc);
-        let _ = append_replaced(name, replaced, &mut message);
-        let _ = put_all(errors, &message);
+/// Says on the standard error how many sequences of each text's bytes were replaced, if any were.
+pub(crate) fn say_replaced<E: Sink>(
+    alloc: Global,
+    names: &[&str],
+    replaced: &[u32],
+    errors: &mut E,
+) {
+    for (name, count) in names.iter().zip(replaced) {
+        if *count > 0 {
+            let mut message = Vec::new(alloc);
+            let _ = append_replaced(name, *count, &mut message);
+            let _ = put_all(errors, &message);
+        }
     }
 }
 

@@ -44,7 +44,7 @@ pub(crate) fn table_of_rules(
     let text = match rule_text(bytes) {
         Ok(text) => text,
         Err(at) => {
-            let place = Place::Byte(at);
+            let place = Place::Byte(at.into());
             return Err(fault_of(alloc, HAS_FAULT, name, "NotUtf8", place, colors));
         }
     };

@@ -1,5 +1,6 @@
 //! The segments of a text by a table, handed over one after the other.
-ghost use Rattle.std.specs.Prelude.{◌≡◌, ◌<◌, ◌≤◌, ℕ, List, Option, length, ⊤, OnOk};
+ghost use Rattle.std.specs.Prelude.{◌≡◌, ◌<◌, ◌≤◌, ◌⊎◌, ℕ, List, Option, length, ⊤, OnOk, IfOk};
+ghost use Rattle.std.specs.Prelude.{IfSome, IsTrue, slice_range};
 ghost use Rattle.rbbi_model.specs.Tables.{statuses_of};
 ghost use Rattle.rbbi_model.specs.Places.{largest};
 ghost use Rattle.rbbi_model.specs.Units.{offset_of};
@@ -7,47 +8,85 @@ ghost use Rattle.rbbi_filter.specs.Closures.{Turns};
 ghost use Rattle.rbbi_filter.specs.declared.filter.Filter.TheVariants.{Turning};
 ghost use Rattle.rbbi_segment.specs.declared.segments.Segment.{Segment};
 ghost use Rattle.rbbi_segment.specs.Filters as spec;
-ghost use Rattle.rbbi_segment.specs.Segments.{segment_to, segments, TakesAll};
+ghost use Rattle.rbbi_segment.specs.Windows.{HandsOn, IsNextSegment, LiesIn};
 
+use crate::failure::Failure;
 use rbbi_filter::{CharMap, Filter, Mapped, Tailoring};
 use rbbi_io::{Sink, WriteErr};
 use rbbi_table::{Found, FrontPlaces, Table};
 use rbbi_text::{Chars, PlainText, Steps, Unit};
-use std::alloc::Global;
 use std::sync::ledger::Ledger;
 
 /// A segment. Places are in characters from 0, and offsets are where they lie in a unit.
 #[derive(Clone, Copy)]
 pub(crate) struct Segment {
-    pub(crate) start: u32,
-    pub(crate) end: u32,
-    pub(crate) start_offset: u32,
-    pub(crate) end_offset: u32,
+    pub(crate) start: u64,
+    pub(crate) end: u64,
+    pub(crate) start_offset: u64,
+    pub(crate) end_offset: u64,
     /// The largest status of the boundary at its end.
     pub(crate) status: u32,
 }
 
-/// What takes segments and puts what it makes of them. Contracts see what taking one and the end
-/// do, where the receiver says that, to the receiver and to what a sink has taken.
+/// Where a segment stands in the window of the text that is held.
+#[derive(Clone, Copy)]
+pub(crate) struct Span {
+    pub(crate) from: u32,
+    pub(crate) to: u32,
+}
+
+/// How far the segments of a text were handed over.
+#[derive(Clone, Copy)]
+pub(crate) struct Progress {
+    /// Where the next segment starts in the window.
+    pub(crate) start: u32,
+    /// Where the next boundary is looked for in the window.
+    pub(crate) at: u32,
+    /// Where the next segment starts in the text, in characters from 0.
+    pub(crate) place: u64,
+    /// Where that lies in the unit.
+    pub(crate) offset: u64,
+}
+
+impl Progress {
+    /// At the start of a text.
+    pub(crate) const START: Progress = Progress {
+        start: 0,
+        at: 0,
+        place: 0,
+        offset: 0,
+    };
+}
+
+/// What takes segments and puts what it makes of them. Contracts see what taking one, a pause and
+/// the end do, where the receiver says that, to the receiver and to what a sink has taken.
 pub(crate) trait Receive {
-    /// What taking a segment of a text does.
+    /// What taking a segment with these characters does.
     ghost takes: { Self → Option (List ℕ) → List ℕ → Segment → Self → Option (List ℕ) → Type 0 } = { λ _ _ _ _ _ _. ⊤ };
+
+    /// What a pause does.
+    ghost pauses: { Self → Option (List ℕ) → Self → Option (List ℕ) → Type 0 } = { λ _ _ _ _. ⊤ };
 
     /// What the end does.
     ghost ends: { Self → Option (List ℕ) → Option (List ℕ) → Type 0 } = { λ _ _ _. ⊤ };
 
-    /// Takes a segment of the text.
+    /// Takes a segment, whose characters stand in the window of the text.
     fn take<K: Sink, L: Ledger>(
         &mut self,
         text: &PlainText,
+        span: Span,
         segment: Segment,
         out: &mut K,
         steps: &mut Steps<L>,
     ) -> Result<(), WriteErr>
-        requires some { segment.start < segment.end }
-        requires within { segment.end ≤ length text.now }
-        ensures { OnOk result (takes self.old (K.taken out.old) text.now segment
-            self.new (K.taken out.new)) };
+        requires some { span.from < span.to }
+        requires within { span.to ≤ length text.now }
+        ensures { OnOk result (takes self.old (K.taken out.old)
+            (slice_range text.now span.from span.to) segment self.new (K.taken out.new)) };
+
+    /// Prints what waits, before more of the text is read.
+    fn pause<K: Sink>(&mut self, out: &mut K) -> Result<(), WriteErr>
+        ensures { OnOk result (pauses self.old (K.taken out.old) self.new (K.taken out.new)) };
 
     /// Prints what is left after the last segment.
     fn end<K: Sink>(&mut self, out: &mut K) -> Result<(), WriteErr>
@@ -65,30 +104,30 @@ fn largest_of(numbers: &[u32]) -> u32
     most
 }
 
-/// The segment from a boundary, whose offset in the unit is given, to one that was found. Its end
-/// is counted on from there.
+/// The segment that follows up to a boundary that was found. None if its places are past the
+/// greatest number.
 fn segment_up_to(
     table: &Table,
     text: &PlainText,
     unit: Unit,
-    start: u32,
-    start_offset: u32,
+    progress: Progress,
     found: Found,
-) -> Segment
-    requires forward { start < found.at }
+) -> Option<Segment>
+    requires forward { progress.start < found.at }
     requires within { found.at ≤ length text.now }
-    requires counted { start_offset ≡ offset_of unit text.now start }
     requires listed { found.status < length table.now.lists }
-    ensures { result ≡ segment_to unit text.now start
-        (record { at = found.at; statuses = statuses_of table.now found.status }) }
+    ensures { IfSome result (IsNextSegment unit text.now progress found.at
+        (statuses_of table.now found.status)) }
 {
-    Segment {
-        start,
-        end: found.at,
-        start_offset,
-        end_offset: start_offset + text.units_between(unit, start, found.at),
+    let characters = u64::from(found.at - progress.start);
+    let units = u64::from(text.units_between(unit, progress.start, found.at));
+    Some(Segment {
+        start: progress.place,
+        end: progress.place.checked_add(characters)?,
+        start_offset: progress.offset,
+        end_offset: progress.offset.checked_add(units)?,
         status: largest_of(table.status_list(found.status)),
-    }
+    })
 }
 
 /// Whether a boundary of the searched text is reported.
@@ -107,93 +146,145 @@ fn reports<S: Chars, L: Ledger>(
     }
 }
 
-/// Hands all segments of a text over, whose boundaries are looked for in `searched`.
+/// Whether what was found in a window of so many characters is found in the whole text, too.
+fn is_final(found: Found, len: u32, is_last: bool) -> bool
+    ensures last { IsTrue is_last → IsTrue result }
+    ensures within { IsTrue result → IsTrue is_last ⊎ ((found.look ≤ len) × (found.at < len)) }
+{
+    is_last || (found.look <= len && found.at < len)
+}
+
+/// Hands the segments of a text over that end within a window of it, whose boundaries are looked
+/// for in `searched`. With `is_last` the text ends with the window, and all that are left are
+/// handed over; otherwise those that don't depend on what follows.
 fn hand_searched<S: Chars, V: Receive, K: Sink, L: Ledger>(
-    alloc: Global,
     table: &Table,
     searched: &S,
     text: &PlainText,
     filter: &Option<Filter>,
     unit: Unit,
+    is_last: bool,
+    marks: &mut FrontPlaces,
+    progress: Progress,
     receiver: &mut V,
     out: &mut K,
     steps: &mut Steps<L>,
-) -> Result<(), WriteErr>
-    requires { S.characters searched.now ≡ spec.searched filter.now text.now }
-    ensures { OnOk result (TakesAll V.takes V.ends text.now
-        (segments unit filter.now table.now text.now)
-        receiver.old (K.taken out.old) (K.taken out.new)) }
+) -> Result<Progress, Failure>
+    requires searched { S.characters searched.now ≡ spec.searched filter.now text.now }
+    requires lies { LiesIn text.now progress }
+    requires fit { marks.old ≡ table.now.slashes }
+    ensures fit { marks.new ≡ marks.old }
+    ensures lies { IfOk result (λ later. LiesIn text.now later) }
+    ensures all { IsTrue is_last → IfOk result (λ later. length text.now ≤ later.at) }
+    ensures handed { IfOk result (λ later. HandsOn V.takes V.pauses unit filter.now
+        table.now text.now is_last progress receiver.old (K.taken out.old) later receiver.new
+        (K.taken out.new)) }
 {
     rbbi_model::next_boundary_is_past_the_start();
+    rbbi_model::searches_depend_on_what_they_read();
     table.valid();
-    let mut marks = FrontPlaces::new(alloc, table)?;
-    let mut start = 0;
-    let mut offset = 0;
-    let mut at = 0;
-    while at < searched.len() {
-        let found = table.next(searched, at, &mut marks, steps);
-        at = found.at;
+    let len = searched.len();
+    let mut now = progress;
+    while now.at < len {
+        let found = table.next(searched, now.at, marks, steps);
+        if !is_final(found, len, is_last) {
+            return Ok(now);
+        }
+        let at = found.at;
         if reports(filter, searched, at, steps) {
-            let segment = segment_up_to(table, text, unit, start, offset, found);
-            receiver.take(text, segment, out, steps)?;
-            start = at;
-            offset = segment.end_offset;
+            let Some(segment) = segment_up_to(table, text, unit, now, found) else {
+                return Err(Failure::Memory);
+            };
+            receiver.take(
+                text,
+                Span {
+                    from: now.start,
+                    to: at,
+                },
+                segment,
+                out,
+                steps,
+            )?;
+            now = Progress {
+                start: at,
+                at,
+                place: segment.end,
+                offset: segment.end_offset,
+            };
+        } else {
+            now.at = at;
         }
     }
-    receiver.end(out)
+    Ok(now)
 }
 
 /// The same, where boundaries are looked for in the text as `map` turns its characters by the pairs
 /// of a filter.
 fn hand_turned<G: CharMap, V: Receive, K: Sink, L: Ledger>(
-    alloc: Global,
     table: &Table,
     text: &PlainText,
     pairs: &Tailoring,
     map: &G,
     filter: &Option<Filter>,
     unit: Unit,
+    is_last: bool,
+    marks: &mut FrontPlaces,
+    progress: Progress,
     receiver: &mut V,
     out: &mut K,
     steps: &mut Steps<L>,
-) -> Result<(), WriteErr>
+) -> Result<Progress, Failure>
     requires pairs { filter.now ≡ Some (Turning pairs.now) }
     requires turns { Turns (G.can_map map.now) (G.maps map.now) pairs.now }
-    ensures { OnOk result (TakesAll V.takes V.ends text.now
-        (segments unit filter.now table.now text.now)
-        receiver.old (K.taken out.old) (K.taken out.new)) }
+    requires lies { LiesIn text.now progress }
+    requires fit { marks.old ≡ table.now.slashes }
+    ensures fit { marks.new ≡ marks.old }
+    ensures lies { IfOk result (λ later. LiesIn text.now later) }
+    ensures all { IsTrue is_last → IfOk result (λ later. length text.now ≤ later.at) }
+    ensures handed { IfOk result (λ later. HandsOn V.takes V.pauses unit filter.now
+        table.now text.now is_last progress receiver.old (K.taken out.old) later receiver.new
+        (K.taken out.new)) }
 {
     let turned = Mapped::new(text, pairs, map);
     hand_searched(
-        alloc, table, &turned, text, filter, unit, receiver, out, steps,
+        table, &turned, text, filter, unit, is_last, marks, progress, receiver, out, steps,
     )
 }
 
-/// Hands all segments of a text by a table over that a filter leaves, in their order, with offsets
-/// in the unit.
-pub(crate) fn hand_over<V: Receive, K: Sink, L: Ledger>(
-    alloc: Global,
+/// Hands the segments of a text by a table over that a filter leaves and that end within a window
+/// of it, with offsets in the unit. With `is_last` the text ends with the window, and all that are
+/// left are handed over; otherwise those that don't depend on what follows.
+pub(crate) fn hand_window<V: Receive, K: Sink, L: Ledger>(
     table: &Table,
     filter: &Option<Filter>,
     text: &PlainText,
     unit: Unit,
+    is_last: bool,
+    marks: &mut FrontPlaces,
+    progress: Progress,
     receiver: &mut V,
     out: &mut K,
     steps: &mut Steps<L>,
-) -> Result<(), WriteErr>
-    ensures { OnOk result (TakesAll V.takes V.ends text.now
-        (segments unit filter.now table.now text.now)
-        receiver.old (K.taken out.old) (K.taken out.new)) }
+) -> Result<Progress, Failure>
+    requires lies { LiesIn text.now progress }
+    requires fit { marks.old ≡ table.now.slashes }
+    ensures fit { marks.new ≡ marks.old }
+    ensures lies { IfOk result (λ later. LiesIn text.now later) }
+    ensures all { IsTrue is_last → IfOk result (λ later. length text.now ≤ later.at) }
+    ensures handed { IfOk result (λ later. HandsOn V.takes V.pauses unit filter.now
+        table.now text.now is_last progress receiver.old (K.taken out.old) later receiver.new
+        (K.taken out.new)) }
 {
     match filter {
         Some(Filter::Turning(pairs)) => {
             let map = |c: char| pairs.turn(c);
             hand_turned(
-                alloc, table, text, pairs, &map, filter, unit, receiver, out, steps,
+                table, text, pairs, &map, filter, unit, is_last, marks, progress, receiver, out,
+                steps,
             )
         }
         None | Some(Filter::Suppressing(_)) => hand_searched(
-            alloc, table, text, text, filter, unit, receiver, out, steps,
+            table, text, text, filter, unit, is_last, marks, progress, receiver, out, steps,
         ),
     }
 }

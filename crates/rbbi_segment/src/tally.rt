@@ -1,7 +1,9 @@
 //! How many segments there are of each status.
 
+use crate::numbers::append_long;
 use crate::only::Wanted;
-use crate::segments::{Receive, Segment};
+use crate::quoted::put_waiting;
+use crate::segments::{Receive, Segment, Span};
 use rbbi_io::{Sink, WriteErr, put_all};
 use rbbi_text::{PlainText, Steps, append, append_number};
 use std::alloc::AllocError;
@@ -13,14 +15,14 @@ use std::sync::ledger::Ledger;
 #[derive(Drop)]
 pub(crate) struct Tally {
     pub(crate) wanted: Wanted,
-    pub(crate) counts: BTreeMap<u32, u32>,
+    pub(crate) counts: BTreeMap<u32, u64>,
     pub(crate) made: Vec<u8>,
 }
 
 /// Appends the end of a line: how many segments there are.
-fn append_count(count: u32, out: &mut Vec<u8>) -> Result<(), AllocError> {
+fn append_count(count: u64, out: &mut Vec<u8>) -> Result<(), AllocError> {
     append(b" ", out)?;
-    append_number(count, out)?;
+    append_long(count, out)?;
     append(b"\n", out)
 }
 
@@ -37,18 +39,23 @@ impl Receive for Tally {
     fn take<K: Sink, L: Ledger>(
         &mut self,
         text: &PlainText,
+        span: Span,
         segment: Segment,
         _out: &mut K,
         steps: &mut Steps<L>,
     ) -> Result<(), WriteErr> {
-        if self.wanted.has(text, segment, steps) {
+        if self.wanted.has(text, span, segment.status, steps) {
             self.count(segment.status)?;
         }
         Ok(())
     }
 
+    fn pause<K: Sink>(&mut self, out: &mut K) -> Result<(), WriteErr> {
+        put_waiting(out, &mut self.made)
+    }
+
     fn end<K: Sink>(&mut self, out: &mut K) -> Result<(), WriteErr> {
-        let mut total: u32 = 0;
+        let mut total: u64 = 0;
         for (status, count) in self.counts.iter() {
             append_number(*status, &mut self.made)?;
             append_count(*count, &mut self.made)?;

@@ -1,7 +1,8 @@
 //! The text in lines of at most so many columns.
 ghost use Rattle.std.specs.Prelude.{◌<◌, ◌≤◌, length};
 
-use crate::segments::{Receive, Segment};
+use crate::quoted::put_waiting;
+use crate::segments::{Receive, Segment, Span};
 use rbbi_io::{Sink, WriteErr, put_all, put_when_full};
 use rbbi_text::{Chars, PlainText, Steps, append};
 use std::alloc::{AllocError, Global};
@@ -30,13 +31,13 @@ pub(crate) struct Wrapped {
 }
 
 /// The place past the last character of the segment that isn't white space, or its start.
-fn end_of_word<L: Ledger>(text: &PlainText, segment: Segment, steps: &mut Steps<L>) -> u32
-    requires some { segment.start < segment.end }
-    requires within { segment.end ≤ length text.now }
-    ensures { result ≤ segment.end }
+fn end_of_word<L: Ledger>(text: &PlainText, span: Span, steps: &mut Steps<L>) -> u32
+    requires some { span.from < span.to }
+    requires within { span.to ≤ length text.now }
+    ensures { result ≤ span.to }
 {
-    let mut end = segment.start;
-    for i in segment.start..segment.end {
+    let mut end = span.from;
+    for i in span.from..span.to {
         if !text.char_at(i, steps).is_whitespace() {
             end = i + 1;
         }
@@ -129,19 +130,24 @@ impl Receive for Wrapped {
     fn take<K: Sink, L: Ledger>(
         &mut self,
         text: &PlainText,
+        span: Span,
         segment: Segment,
         out: &mut K,
         steps: &mut Steps<L>,
     ) -> Result<(), WriteErr> {
-        let end = end_of_word(text, segment, steps);
-        self.take_word(text, segment.start, end, steps)?;
-        self.take_space(text, end, segment.end, steps)?;
+        let end = end_of_word(text, span, steps);
+        self.take_word(text, span.from, end, steps)?;
+        self.take_space(text, end, span.to, steps)?;
         if segment.status >= MUST_BREAK {
             append(self.space.as_str().as_bytes(), &mut self.made)?;
             self.space.clear();
             self.end_line()?;
         }
         put_when_full(out, &mut self.made)
+    }
+
+    fn pause<K: Sink>(&mut self, out: &mut K) -> Result<(), WriteErr> {
+        put_waiting(out, &mut self.made)
     }
 
     fn end<K: Sink>(&mut self, out: &mut K) -> Result<(), WriteErr> {

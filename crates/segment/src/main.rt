@@ -8,7 +8,7 @@ mod system;
 
 use crate::system::{Noting, RealSystem};
 use rbbi_io::{RealFiles, RealSink, words};
-use rbbi_segment::{Surroundings, segment};
+use rbbi_segment::{Sizes, Surroundings, segment};
 use rbbi_text::Steps;
 use std::cell::Cell;
 use std::io::{ErrorKind, IsTerminal};
@@ -36,6 +36,7 @@ fn surroundings(rt: &HostRuntime) -> Surroundings {
         output_is_terminal: rt.stdout().is_terminal(),
         errors_are_on_terminal: rt.stderr().is_terminal(),
         no_color: asks_for_no_color(rt),
+        sizes: Sizes::USUAL,
     }
 }
 

@@ -35,6 +35,16 @@ pub(crate) struct RealSystem<'a, R> {
 }
 
 impl<'a, R: std::rt::Files> System for RealSystem<'a, R> {
+    ghost use Rattle.std.specs.Prelude.{None};
+
+    ghost contents = { λ _. None };
+
+    type Reader = R::File;
+
+    fn open(&self, name: &str) -> io::Result<Self::Reader> {
+        File::open(self.rt, name)
+    }
+
     /// The file is tried again.
     fn unread(&self, name: &str) -> Option<io::Error> {
         match File::open(self.rt, name) {

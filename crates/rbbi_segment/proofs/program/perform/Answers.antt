@@ -18,12 +18,12 @@ pub returns : goal.returns
 returns g c =
     let request : Request = c.args.request.now in
     let contents : Option (List ℕ → List ℕ) = g.F.Files.contents c.args.files.now in
+    let texts : Option (List ℕ → List ℕ) = g.S.System.contents c.args.system.now in
     let before : Option (List ℕ) = g.K.Sink.taken c.args.out.now in
-    let now : Option (List ℕ) = g.K.Sink.taken c.segment_text.new.out in
+    let now : Option (List ℕ) = g.K.Sink.taken c.put_texts.new.out in
     let Puts : Colors → Task → Type 0 =
-    λ colors task. OnOk c.segment_text.result (TakesLinesOf request colors contents before now task request.basis) in
+    λ colors task. OnOk c.put_texts.result (TakesLinesOf request colors contents texts before now task request.basis) in
     subst (λ colors. Puts colors request.task) c.new-colors.ensures
     (subst (Puts c.new-colors.result) (sym c.in-Segment.is)
-    (of_basis g.F.Files.contents c.args.files.now c.table_of.new.files c.filter_of.new.files c.in_ok-table.table c.in_ok-filter.filter request
-    c.new-colors.result before now c.in-Segment.name request.basis c.segment_text.result c.in_ok-table.ensures c.in_ok-filter.ensures.filter
-    c.in_ok-filter.ensures.same c.segment_text.ensures))
+    (of_basis g.F.Files.contents texts c.args.files.now c.table_of.new.files c.in_ok-table.table c.in_ok-filter.filter request
+    c.new-colors.result before now request.basis c.put_texts.result c.in_ok-table.ensures c.in_ok-filter.ensures.filter c.put_texts.ensures))

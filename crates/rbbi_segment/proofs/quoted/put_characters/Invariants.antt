@@ -7,7 +7,7 @@ use Rattle.rbbi_segment.proofs.quoted.put_characters.Given as goal
 -- the characters before this one went out or wait
 abbrev pub invariant-loop-i : goal.invariant-loop-i
 invariant-loop-i g l = record {
-  first : l.fn.segment.start ≤ l.i;
+  first : l.fn.span.from ≤ l.i;
   put : IsBuffered (g.K.Sink.taken l.initial.out) (g.K.Sink.taken l.out)
-      (l.fn.made.items ++ shown_all l.within (slice_range l.text l.fn.segment.start l.i)) l.made.items;
+      (l.fn.made.items ++ shown_all l.within (slice_range l.text l.fn.span.from l.i)) l.made.items;
 }

@@ -11,7 +11,7 @@ pub returns : goal.returns
 returns g c =
     let made : List ℕ = c.args.made.now.items in
     let style : Style = c.args.style in
-    let piece : List ℕ = shown_all (within style.layout) (slice_range c.args.text.now c.args.segment.start c.args.segment.end) in
+    let piece : List ℕ = shown_all (within style.layout) (slice_range c.args.text.now c.args.span.from c.args.span.to) in
     on_ok c.put_when_full.result
     (λ flushed. subst (λ m. IsBuffered (g.K.Sink.taken c.args.out.now) (g.K.Sink.taken c.put_when_full.new.out) m c.put_when_full.new.made.items)
     (three_parts made (head style.layout style.colors c.args.segment) piece (tail style.layout))

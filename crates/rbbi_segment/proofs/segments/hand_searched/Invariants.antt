@@ -1,18 +1,16 @@
-use Rattle.std.proofs.Common.{◌≡◌, ◌≤◌, ◌-◌, length}
-use Rattle.rbbi_model.specs.Units.{offset_of}
-use Rattle.rbbi_segment.proofs.Handed.{AreHanded}
+use Rattle.std.proofs.Common.{◌≡◌, ◌-◌}
+use Rattle.rbbi_segment.specs.Windows.{HandsOn, LiesIn}
 use Rattle.rbbi_segment.proofs.segments.hand_searched.Given as goal
 
--- the segments up to the last boundary that is reported were handed over, its offset is counted, and there is space for the searches
-abbrev pub invariant-loop-at : goal.invariant-loop-at
-invariant-loop-at g l = record {
-  within : l.at ≤ length (g.S.Chars.characters l.searched);
-  counted : l.offset ≡ offset_of l.unit l.text l.start;
-  fit : l.marks ≡ l.table.slashes;
-  handed : AreHanded g.V.Receive.takes l.unit l.filter l.table (g.S.Chars.characters l.searched) l.text l.initial.receiver
-      (g.K.Sink.taken l.initial.out) l.receiver (g.K.Sink.taken l.out) l.start l.at;
+-- the progress lies in the window, there is space for the searches, and what was handed over so far is what the progress says
+abbrev pub invariant-loop-now : goal.invariant-loop-now
+invariant-loop-now g l = record {
+  lies : LiesIn l.text l.now;
+  fit : l.marks ≡ l.initial.marks;
+  stands : HandsOn g.V.Receive.takes g.V.Receive.pauses l.unit l.filter l.table l.text l.is_last l.initial.now l.initial.receiver
+      (g.K.Sink.taken l.initial.out) l.now l.receiver (g.K.Sink.taken l.out);
 }
 
 -- the characters that are left
-abbrev pub decreases-loop-at : goal.decreases-loop-at
-decreases-loop-at g l = length (g.S.Chars.characters l.searched) - l.at
+abbrev pub decreases-loop-now : goal.decreases-loop-now
+decreases-loop-now g l = l.len - l.now.at

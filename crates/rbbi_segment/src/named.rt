@@ -1,0 +1,314 @@
+//! The segments of the texts that are named, in the format that is asked for.
+ghost use Rattle.std.specs.Prelude.{◌≡◌, ◌++◌, ℕ, List, Option, IfSome, OnOk, chars, codes};
+ghost use Rattle.rbbi_io.specs.Sinks.{Takes};
+ghost use Rattle.rbbi_model.specs.Words.{IsText};
+ghost use Rattle.rbbi_segment_tables.specs.Annexes.{GivesAnnex};
+ghost use Rattle.rbbi_segment_tables.specs.declared.loading.Kind.{Kind};
+ghost use Rattle.rbbi_segment.specs.Annexes.{AreTakenInTurn, TakesAnnex, TakesText, heading_of};
+ghost use Rattle.rbbi_segment.specs.Contents.{IsGiven, IsTextGiven, IsTextOf};
+ghost use Rattle.rbbi_segment.specs.Headings.{arrows, gap, heading};
+ghost use Rattle.rbbi_segment.specs.Lines.{lines, lines_in};
+ghost use Rattle.rbbi_segment.specs.Segments.{segments};
+
+use crate::colors::Colors;
+use crate::escapes::{Within, append_characters, append_name};
+use crate::failure::Failure;
+use crate::faults::Place;
+use crate::filters::searches_texts;
+use crate::marked::Marked;
+use crate::options::{Format, Layout, Request};
+use crate::quoted::{Quoted, Style};
+use crate::reading::{TEXT_LIMIT, count_replaced};
+use crate::streaming::{Origin, hand_over};
+use crate::system::System;
+use crate::tally::Tally;
+use crate::wrapped::Wrapped;
+use rbbi_filter::Filter;
+use rbbi_io::{ReadErr, Sink, put_all, read_at_most};
+use rbbi_table::Table;
+use rbbi_text::{Steps, Unit, append};
+use std::alloc::{AllocError, Global};
+use std::collections::BTreeMap;
+use std::io::Read;
+use std::sync::ledger::Ledger;
+
+/// Prints by itself each segment of a text by a table that is asked for, with offsets in the unit.
+fn put_lines<R: Read, K: Sink, L: Ledger>(
+    origin: Origin<'_>,
+    style: Style,
+    table: &Table,
+    filter: &Option<Filter>,
+    reader: &mut R,
+    unit: Unit,
+    out: &mut K,
+    steps: &mut Steps<L>,
+) -> Result<(), Failure>
+    ensures { OnOk result ((bytes : List ℕ) × IsGiven (R.remaining reader.old) bytes
+        × IsText (chars bytes) × Takes (K.taken out.old) (K.taken out.new) (lines style
+        (chars bytes) (segments unit filter.now table.now (chars bytes)))) }
+{
+    let made = Vec::new(origin.alloc);
+    let mut receiver = Quoted { style, made };
+    hand_over(
+        origin,
+        table,
+        filter,
+        reader,
+        unit,
+        &mut receiver,
+        out,
+        steps,
+    )
+}
+
+/// Prints the segments of a text by a table and a filter, in the format that is asked for.
+fn put_segments<R: Read, K: Sink, L: Ledger>(
+    origin: Origin<'_>,
+    request: &Request<'_>,
+    table: &Table,
+    filter: &Option<Filter>,
+    reader: &mut R,
+    colors: Colors,
+    out: &mut K,
+    steps: &mut Steps<L>,
+) -> Result<(), Failure>
+    ensures { OnOk result ((bytes : List ℕ) × IsGiven (R.remaining reader.old) bytes
+        × IsText (chars bytes) × IfSome (lines_in request.now.format request.now.wanted colors
+        (chars bytes) (segments request.now.unit filter.now table.now (chars bytes)))
+        (Takes (K.taken out.old) (K.taken out.new))) }
+{
+    let alloc = origin.alloc;
+    let unit = request.unit;
+    let chars = Unit::Chars;
+    let wanted = request.wanted;
+    match request.format {
+        Format::Each(layout) => {
+            let style = Style {
+                layout,
+                wanted,
+                colors,
+            };
+            put_lines(origin, style, table, filter, reader, unit, out, steps)
+        }
+        Format::Marked(mark) => {
+            let mut receiver = Marked {
+                mark,
+                wanted,
+                colors,
+                was_asked_for: false,
+                made: Vec::new(alloc),
+            };
+            hand_over(
+                origin,
+                table,
+                filter,
+                reader,
+                chars,
+                &mut receiver,
+                out,
+                steps,
+            )
+        }
+        Format::Lines(width) => {
+            let mut receiver = Wrapped::new(alloc, width);
+            hand_over(
+                origin,
+                table,
+                filter,
+                reader,
+                chars,
+                &mut receiver,
+                out,
+                steps,
+            )
+        }
+        Format::Count => {
+            let counts = BTreeMap::new(alloc);
+            let made = Vec::new(alloc);
+            let mut receiver = Tally {
+                wanted,
+                counts,
+                made,
+            };
+            hand_over(
+                origin,
+                table,
+                filter,
+                reader,
+                chars,
+                &mut receiver,
+                out,
+                steps,
+            )
+        }
+    }
+}
+
+/// Prints the segments of the text that a reader gives. It answers how many sequences of its bytes
+/// were replaced.
+fn put_text<R: Read, K: Sink, L: Ledger>(
+    origin: Origin<'_>,
+    request: &Request<'_>,
+    table: &Table,
+    filter: &Option<Filter>,
+    reader: &mut R,
+    colors: Colors,
+    out: &mut K,
+    steps: &mut Steps<L>,
+) -> Result<u32, Failure>
+    ensures { (kind : Kind) → GivesAnnex kind table.now → OnOk result ((x : List ℕ)
+        × IsTextGiven request.now.is_lossy (R.remaining reader.old) x
+        × TakesAnnex kind request.now filter.now colors x (K.taken out.old) (K.taken out.new)) }
+{
+    searches_texts(filter);
+    if !request.is_lossy {
+        put_segments(origin, request, table, filter, reader, colors, out, steps)?;
+        return Ok(0);
+    }
+    let raw = match read_at_most(origin.alloc, reader, TEXT_LIMIT) {
+        Ok(raw) => raw,
+        Err(ReadErr::TooLong) => return Err(origin.fault("TooLong", Place::Whole)),
+        Err(ReadErr::Failed) => return Err(origin.unread()),
+        Err(ReadErr::Memory) => return Err(Failure::Memory),
+    };
+    let bytes = raw.bytes(steps);
+    let text = String::from_utf8_lossy(origin.alloc, bytes)?;
+    let mut rest = text.as_bytes();
+    put_segments(
+        origin, request, table, filter, &mut rest, colors, out, steps,
+    )?;
+    Ok(count_replaced(bytes))
+}
+
+/// Prints the segments of the text with this name, or of the standard input if it is `-`. It
+/// answers how many sequences of its bytes were replaced.
+fn put_named<S: System, R: Read, K: Sink, L: Ledger>(
+    origin: Origin<'_>,
+    request: &Request<'_>,
+    table: &Table,
+    filter: &Option<Filter>,
+    system: &S,
+    input: &mut R,
+    colors: Colors,
+    out: &mut K,
+    steps: &mut Steps<L>,
+) -> Result<u32, Failure>
+    ensures { (kind : Kind) → GivesAnnex kind table.now → OnOk result ((x : List ℕ)
+        × IsTextOf request.now.is_lossy (S.contents system.now) origin.entry.name.now x
+        × TakesAnnex kind request.now filter.now colors x (K.taken out.old) (K.taken out.new)) }
+{
+    if origin.name == "-" {
+        return put_text(origin, request, table, filter, input, colors, out, steps);
+    }
+    match system.open(origin.name) {
+        Ok(mut reader) => put_text(
+            origin,
+            request,
+            table,
+            filter,
+            &mut reader,
+            colors,
+            out,
+            steps,
+        ),
+        Err(_) => Err(origin.unread()),
+    }
+}
+
+/// Appends a name between arrows.
+fn append_arrows(name: &str, made: &mut Vec<u8>) -> Result<(), AllocError>
+    ensures { OnOk result (made.new.items ≡ made.old.items ++ arrows name.now) }
+{
+    append(b"==> ", made)?;
+    append_name(name, made)?;
+    append(b" <==", made)
+}
+
+/// Appends a name between arrows in a line, after an empty line if it isn't the first.
+fn append_line(is_first: bool, name: &str, made: &mut Vec<u8>) -> Result<(), AllocError>
+    ensures { OnOk result (made.new.items ≡ made.old.items
+        ++ (gap is_first ++ (arrows name.now ++ codes "\n"))) }
+{
+    if !is_first {
+        append(b"\n", made)?;
+    }
+    append_arrows(name, made)?;
+    append(b"\n", made)
+}
+
+/// Appends what heads the segments of a text: its name, after an empty line if it isn't the first.
+/// In JSON it is an object, and with NUL at the ends of segments it ends so too, and no line is
+/// empty.
+fn append_heading(
+    format: Format<'_>,
+    is_first: bool,
+    name: &str,
+    made: &mut Vec<u8>,
+) -> Result<(), AllocError>
+    ensures { OnOk result (made.new.items ≡ made.old.items ++ heading format.entry is_first name.now) }
+{
+    match format {
+        Format::Each(Layout::Json) => {
+            append(b"{\"file\":\"", made)?;
+            append_characters(name, Within::Json, made)?;
+            append(b"\"}\n", made)
+        }
+        Format::Each(Layout::Null) => {
+            append_arrows(name, made)?;
+            append(b"\0", made)
+        }
+        Format::Each(Layout::Text | Layout::Plain)
+        | Format::Marked(_)
+        | Format::Lines(_)
+        | Format::Count => append_line(is_first, name, made),
+    }
+}
+
+/// Prints the heading of a text, if that is asked for.
+fn put_heading<K: Sink>(
+    alloc: Global,
+    request: &Request<'_>,
+    is_first: bool,
+    name: &str,
+    out: &mut K,
+) -> Result<(), Failure>
+    ensures { OnOk result (Takes (K.taken out.old) (K.taken out.new)
+        (heading_of request.now is_first name.now)) }
+{
+    if !request.has_headings {
+        return Ok(());
+    }
+    let mut made = Vec::new(alloc);
+    append_heading(request.format, is_first, name, &mut made)?;
+    put_all(out, &made)?;
+    Ok(())
+}
+
+/// Prints the segments of the texts that are named, one text after the other, each with its heading
+/// if that is asked for. It answers of each how many sequences of its bytes were replaced.
+pub(crate) fn put_texts<S: System, R: Read, K: Sink, L: Ledger>(
+    origin: Origin<'_>,
+    request: &Request<'_>,
+    table: &Table,
+    filter: &Option<Filter>,
+    system: &S,
+    input: &mut R,
+    colors: Colors,
+    out: &mut K,
+    steps: &mut Steps<L>,
+) -> Result<Vec<u32>, Failure>
+    ensures { (kind : Kind) → GivesAnnex kind table.now → OnOk result (AreTakenInTurn
+        (TakesText kind request.now filter.now colors (S.contents system.now))
+        (K.taken out.old) request.now.names.items (K.taken out.new)) }
+{
+    let mut replaced = Vec::new(origin.alloc);
+    for name in &request.names {
+        put_heading(origin.alloc, request, replaced.is_empty(), name, out)?;
+        let origin = Origin { name, ..origin };
+        let count = put_named(
+            origin, request, table, filter, system, input, colors, out, steps,
+        )?;
+        replaced.push(count)?;
+    }
+    Ok(replaced)
+}

@@ -1,0 +1,278 @@
+//! A text that is read and segmented by windows.
+//!
+//! A search from a boundary depends on the characters that it reads alone. So the window is searched
+//! until a search would read on at its end; then more of the text is read, and the search begins
+//! again. What stands before the segment of the moment is let go.
+ghost use Rattle.std.specs.Prelude.{◌≡◌, ◌+◌, ◌-◌, ◌<◌, ◌≤◌, ◌++◌, ℕ, List, [], length, take, drop, OnOk, IfOk, IfSome, IsTrue, MatchResult, IsUtf8, chars};
+ghost use Rattle.std.specs.Io.KnownBytes.{Consumes, IsAtEnd, Keeps};
+ghost use Rattle.rbbi_model.specs.Words.{IsText};
+ghost use Rattle.rbbi_segment.specs.Contents.{IsGiven};
+ghost use Rattle.rbbi_segment.specs.Segments.{segments, TakesAll};
+ghost use Rattle.rbbi_segment.specs.Windows.{IsShifted, LiesIn, Reads};
+
+use crate::colors::Colors;
+use crate::failure::{Failure, IS_REFUSED};
+use crate::faults::{Place, fault_of};
+use crate::segments::{Progress, Receive, hand_window};
+use rbbi_filter::Filter;
+use rbbi_io::Sink;
+use rbbi_table::{FrontPlaces, Table};
+use rbbi_text::{Chars, EditErr, EditText, PlainText, Steps, TextErr, Unit};
+use std::alloc::{AllocError, Global};
+use std::io::{ErrorKind, Read};
+use std::sync::ledger::Ledger;
+
+/// How many characters before a boundary a filter looks at.
+const LOOK_BACK: u32 = 64;
+
+/// A window with fewer characters is searched again after each read, and a longer one once it is
+/// twice as long.
+const FEW: u32 = 4096;
+
+/// How much of a text is held.
+#[derive(Clone, Copy)]
+pub struct Sizes {
+    /// How many bytes are read at once, at most; at least one.
+    pub block: u32,
+    /// With this many characters or more a window doesn't grow.
+    pub window: u32,
+}
+
+impl Sizes {
+    /// What serves files of any size in little memory.
+    pub const USUAL: Sizes = Sizes {
+        block: 262_144,
+        window: 4_194_304,
+    };
+}
+
+/// What is told of a text if it can't be read.
+#[derive(Clone, Copy)]
+pub(crate) struct Origin<'a> {
+    pub(crate) alloc: Global,
+    pub(crate) name: &'a str,
+    pub(crate) colors: Colors,
+    pub(crate) sizes: Sizes,
+}
+
+impl Origin<'_> {
+    /// The failure that the text has a fault of this label.
+    pub(crate) fn fault(&self, label: &str, place: Place) -> Failure {
+        fault_of(self.alloc, IS_REFUSED, self.name, label, place, self.colors)
+    }
+
+    /// The failure that the text can't be read.
+    pub(crate) fn unread(&self) -> Failure {
+        match String::from_str(self.alloc, self.name) {
+            Ok(name) => Failure::Unread(name, self.colors),
+            Err(_) => Failure::Memory,
+        }
+    }
+}
+
+/// Reads once into the block. It answers how many bytes there were, and 0 at the end.
+fn read_block<R: Read>(
+    origin: Origin<'_>,
+    reader: &mut R,
+    block: &mut [u8],
+) -> Result<usize, Failure>
+    requires { 0 < length block.old }
+    ensures within { IfOk result (λ count. count ≤ length block.new) }
+    ensures bytes { IfOk result (λ count.
+        Consumes (R.remaining reader.old) (R.remaining reader.new) (take count block.new)) }
+    ensures end { IfOk result (λ count. count ≡ 0 → IsAtEnd (R.remaining reader.new)) }
+{
+    for _turn in 0..u64::MAX {
+        match reader.read(block) {
+            Ok(count) => return Ok(count),
+            Err(fault) => {
+                if fault.kind() != ErrorKind::Interrupted {
+                    return Err(origin.unread());
+                }
+            }
+        }
+    }
+    Err(origin.unread())
+}
+
+/// How many of the bytes spell characters that are whole. At the end of the text all do; before it
+/// up to three bytes may begin one that isn't. Refused with the first byte that is no part of a
+/// character.
+fn whole_length(bytes: &[u8], is_last: bool) -> Result<usize, usize>
+    ensures within { IfOk result (λ count. count ≤ length bytes.now) }
+    ensures characters { IfOk result (λ count. IsUtf8 (take count bytes.now)) }
+    ensures all { IfOk result (λ count. IsTrue is_last → count ≡ length bytes.now) }
+{
+    match simdutf8::compat::from_utf8(bytes) {
+        Ok(_) => Ok(bytes.len()),
+        Err(fault) => {
+            let end = fault.valid_up_to();
+            if fault.error_len().is_none() && !is_last {
+                Ok(end)
+            } else {
+                Err(end)
+            }
+        }
+    }
+}
+
+/// What is read of a text.
+#[derive(Drop)]
+struct Feed {
+    /// What is read at once.
+    block: Vec<u8>,
+    /// Up to three bytes that begin a character.
+    waiting: Vec<u8>,
+    /// How many bytes stand before those.
+    before: u64,
+}
+
+/// This many zeros.
+fn zeros(alloc: Global, count: usize) -> Result<Vec<u8>, AllocError>
+    ensures { IfOk result (λ zeros. length zeros.items ≡ count) }
+{
+    vec![in alloc; 0u8; count]
+}
+
+impl Feed {
+    /// Nothing is read so far.
+    fn new(origin: Origin<'_>) -> Result<Feed, Failure>
+        ensures some { IfOk result (λ feed. 0 < length feed.block.items) }
+        ensures waiting { IfOk result (λ feed. feed.waiting.items ≡ []) }
+    {
+        Ok(Feed {
+            block: zeros(origin.alloc, origin.sizes.block.max(1) as usize)?,
+            waiting: Vec::new(origin.alloc),
+            before: 0,
+        })
+    }
+
+    /// Reads once, and appends the characters that are whole then to the window. It answers whether
+    /// the text ends there.
+    fn more<R: Read>(
+        &mut self,
+        origin: Origin<'_>,
+        reader: &mut R,
+        window: &mut PlainText,
+    ) -> Result<bool, Failure>
+        requires some { 0 < length self.old.block.items }
+        ensures some { length self.new.block.items ≡ length self.old.block.items }
+        ensures reads { IfOk result (λ is_last. Reads (R.remaining reader.old)
+            (R.remaining reader.new) self.old.waiting.items self.new.waiting.items
+            window.old window.new is_last) }
+    {
+        let count = read_block(origin, reader, &mut self.block)?;
+        self.waiting.extend_from_slice(&self.block[..count])?;
+        let is_last = count == 0;
+        let end = match whole_length(&self.waiting, is_last) {
+            Ok(end) => end,
+            Err(end) => {
+                let at = self.before.saturating_add(end as u64);
+                return Err(origin.fault("NotUtf8", Place::Byte(at)));
+            }
+        };
+        append_characters(origin, &self.waiting[..end], window)?;
+        self.waiting = self.waiting[end..].to_vec(origin.alloc)?;
+        self.before = self.before.saturating_add(end as u64);
+        Ok(is_last)
+    }
+}
+
+/// Appends the characters that the bytes spell to the window.
+fn append_characters(
+    origin: Origin<'_>,
+    bytes: &[u8],
+    window: &mut PlainText,
+) -> Result<(), Failure>
+    requires { IsUtf8 bytes.now }
+    ensures { OnOk result (window.new ≡ window.old ++ chars bytes.now) }
+{
+    let Ok(text) = simdutf8::compat::from_utf8(bytes) else {
+        return Ok(());
+    };
+    let end = window.len();
+    match window.replace(end, 0, text) {
+        Ok(()) => Ok(()),
+        Err(EditErr::Memory) => Err(Failure::Memory),
+        Err(_) => Err(origin.fault("SegmentTooLong", Place::Whole)),
+    }
+}
+
+/// Lets the characters of the window go that nothing looks at any more.
+fn shift(window: &mut PlainText, progress: Progress) -> Result<Progress, Failure>
+    requires { LiesIn window.old progress }
+    ensures { IfOk result (λ later. IsShifted window.old window.new progress later) }
+{
+    let gone = progress.start.min(progress.at.saturating_sub(LOOK_BACK));
+    if gone == 0 {
+        return Ok(progress);
+    }
+    match window.replace(0, gone, "") {
+        Ok(()) => Ok(Progress {
+            start: progress.start - gone,
+            at: progress.at - gone,
+            ..progress
+        }),
+        Err(_) => Err(Failure::Memory),
+    }
+}
+
+/// No characters.
+fn nothing(alloc: Global) -> Result<PlainText, Failure>
+    ensures { IfOk result (λ text. text ≡ []) }
+{
+    match PlainText::new(alloc, "") {
+        Ok(text) => Ok(text),
+        Err(TextErr::Memory) => Err(Failure::Memory),
+        Err(TextErr::TooManyChars) => Err(Failure::Memory),
+    }
+}
+
+/// Hands all segments of the text that a reader gives over, by a table and a filter, in their
+/// order, with offsets in the unit. The bytes are refused if they aren't UTF-8, and a segment that
+/// doesn't fit a window.
+pub(crate) fn hand_over<R: Read, V: Receive, K: Sink, L: Ledger>(
+    origin: Origin<'_>,
+    table: &Table,
+    filter: &Option<Filter>,
+    reader: &mut R,
+    unit: Unit,
+    receiver: &mut V,
+    out: &mut K,
+    steps: &mut Steps<L>,
+) -> Result<(), Failure>
+    ensures { OnOk result ((bytes : List ℕ) × IsGiven (R.remaining reader.old) bytes
+        × IsText (chars bytes) × TakesAll V.takes V.pauses V.ends (chars bytes)
+        (segments unit filter.now table.now (chars bytes))
+        receiver.old (K.taken out.old) (K.taken out.new)) }
+{
+    let mut feed = Feed::new(origin)?;
+    let mut window = nothing(origin.alloc)?;
+    let mut marks = FrontPlaces::new(origin.alloc, table)?;
+    let mut progress = Progress::START;
+    let mut enough = 0;
+    for _turn in 0..u64::MAX {
+        let is_last = feed.more(origin, reader, &mut window)?;
+        if !is_last && window.len() < enough {
+            continue;
+        }
+        progress = hand_window(
+            table, filter, &window, unit, is_last, &mut marks, progress, receiver, out, steps,
+        )?;
+        if is_last {
+            receiver.end(out)?;
+            return Ok(());
+        }
+        receiver.pause(out)?;
+        progress = shift(&mut window, progress)?;
+        if window.len() >= origin.sizes.window {
+            return Err(origin.fault("SegmentTooLong", Place::Whole));
+        }
+        enough = if window.len() < FEW {
+            0
+        } else {
+            window.len().saturating_mul(2).min(origin.sizes.window)
+        };
+    }
+    Err(origin.unread())
+}
