@@ -245,7 +245,8 @@ fn append_heading(
     name: &str,
     made: &mut Vec<u8>,
 ) -> Result<(), AllocError>
-    ensures { OnOk result (made.new.items ≡ made.old.items ++ heading format.entry is_first name.now) }
+    ensures { OnOk result (made.new.items ≡ made.old.items
+        ++ heading format.entry is_first name.now) }
 {
     match format {
         Format::Each(Layout::Json) => {

@@ -3,7 +3,8 @@
 //! A search from a boundary depends on the characters that it reads alone. So the window is searched
 //! until a search would read on at its end; then more of the text is read, and the search begins
 //! again. What stands before the segment of the moment is let go.
-ghost use Rattle.std.specs.Prelude.{◌≡◌, ◌+◌, ◌-◌, ◌<◌, ◌≤◌, ◌++◌, ℕ, List, [], length, take, drop, OnOk, IfOk, IfSome, IsTrue, MatchResult, IsUtf8, chars};
+ghost use Rattle.std.specs.Prelude.{◌≡◌, ◌+◌, ◌-◌, ◌<◌, ◌≤◌, ◌++◌, ℕ, List, [], length, take, drop};
+ghost use Rattle.std.specs.Prelude.{OnOk, IfOk, IfSome, IsTrue, MatchResult, IsUtf8, chars};
 ghost use Rattle.std.specs.Io.KnownBytes.{Consumes, IsAtEnd, Keeps};
 ghost use Rattle.rbbi_model.specs.Words.{IsText};
 ghost use Rattle.rbbi_segment.specs.Contents.{IsGiven};

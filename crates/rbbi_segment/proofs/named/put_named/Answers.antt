@@ -14,8 +14,7 @@ returns-then-eq g c kind gives =
 pub returns-in-Ok : goal.returns-in-Ok
 returns-in-Ok g c kind gives =
     on_ok c.put_text-in-Ok.result
-    (λ taken.
-    (
+    (λ taken. (
       taken.0,
       (
         taken.1.0,

@@ -12,8 +12,12 @@ loop-name-preserved g c =
     let i : ℕ = c.loop-name.name-index in
     let counted : c.loop-name.replaced.len ≡ i = omega (arith, c.loop-name.replaced.ok.0, c.loop-name.invariant.counts) in
     record {
-      counts = omega (arith, ap length c.in_ok-push.ensures.items, length-append c.loop-name.replaced.items (c.in_ok-count.count ∷ []),
-          c.loop-name.invariant.counts);
+      counts = omega (
+        arith,
+        ap length c.in_ok-push.ensures.items,
+        length-append c.loop-name.replaced.items (c.in_ok-count.count ∷ []),
+        c.loop-name.invariant.counts,
+      );
       taken = λ kind gives.
           more_taken kind c.args.request.now c.args.filter.now c.args.colors (g.S.System.contents c.args.system.now) (g.K.Sink.taken c.args.out.now)
           (g.K.Sink.taken c.loop-name.out) (g.K.Sink.taken c.put_heading.new.out) (g.K.Sink.taken c.put_named.new.out) c.is_empty.result

@@ -1,7 +1,8 @@
 use Rattle.std.proofs.Common.{◌≡◌, ◌≤◌, ◌<◌, List, ℕ, length, true, false, sym, ap, ◌∙◌, subst, arith}
 use Rattle.std.specs.Prelude.{IsTrue}
 use Rattle.rbbi_segment.specs.Windows.{LiesIn, Reads}
-use Rattle.rbbi_segment.proofs.Streamed.{IsStreamed, lies_grown, lies_shifted, streamed_start, streamed_more, streamed_on, streamed_paused, streamed_shifted, streamed_last}
+use Rattle.rbbi_segment.proofs.Streamed.{IsStreamed, lies_grown, lies_shifted, streamed_start, streamed_more, streamed_on, streamed_paused, streamed_shifted}
+use Rattle.rbbi_segment.proofs.Streamed.{streamed_last}
 use Rattle.rbbi_segment.proofs.streaming.hand_over.Goals as goal
 
 pub loop-turn-init : goal.loop-turn-init
@@ -42,8 +43,8 @@ returns-then-is_last g c =
     let held = g.R.Read.remaining c.args.reader.now in
     let before = g.K.Sink.taken c.args.out.now in
     let more = streamed_more g.V.Receive.takes g.V.Receive.pauses c.args.unit c.args.filter.now c.args.table.now held c.args.receiver.now before left waiting
-        c.loop-turn.window c.loop-turn.progress c.loop-turn.receiver now so_far.streamed less waits longer c.in_ok-is_last.is_last
-        c.in_ok-is_last.ensures.reads in
+    c.loop-turn.window c.loop-turn.progress c.loop-turn.receiver now so_far.streamed less waits longer c.in_ok-is_last.is_last
+    c.in_ok-is_last.ensures.reads in
     let ended = c.in_ok-is_last.ensures.reads.ended c.if-is_last.true in
     streamed_last g.V.Receive.takes g.V.Receive.pauses c.args.unit c.args.filter.now c.args.table.now held c.args.receiver.now before less waits longer
     c.loop-turn.progress c.loop-turn.receiver now more g.V.Receive.ends c.in_ok-progress.progress c.hand_window.new.receiver
@@ -65,13 +66,13 @@ loop-turn-preserved g c =
     let before = g.K.Sink.taken c.args.out.now in
     let later = c.in_ok-progress.progress in
     let more = streamed_more g.V.Receive.takes g.V.Receive.pauses c.args.unit c.args.filter.now c.args.table.now held c.args.receiver.now before left waiting
-        c.loop-turn.window c.loop-turn.progress c.loop-turn.receiver now so_far.streamed less waits longer c.in_ok-is_last.is_last
-        c.in_ok-is_last.ensures.reads in
+    c.loop-turn.window c.loop-turn.progress c.loop-turn.receiver now so_far.streamed less waits longer c.in_ok-is_last.is_last
+    c.in_ok-is_last.ensures.reads in
     let on = streamed_on g.V.Receive.takes g.V.Receive.pauses c.args.unit c.args.filter.now c.args.table.now held c.args.receiver.now before less waits longer
-        c.loop-turn.progress c.loop-turn.receiver now more later c.hand_window.new.receiver then c.in_ok-is_last.is_last
-        (λ is. cc (is, c.if-is_last.false)) c.in_ok-progress.ensures.handed in
+    c.loop-turn.progress c.loop-turn.receiver now more later c.hand_window.new.receiver then c.in_ok-is_last.is_last
+    (λ is. cc (is, c.if-is_last.false)) c.in_ok-progress.ensures.handed in
     let paused = streamed_paused g.V.Receive.takes g.V.Receive.pauses c.args.unit c.args.filter.now c.args.table.now held c.args.receiver.now before less waits
-        longer later c.hand_window.new.receiver then on c.pause.new.self after c.in_ok-pause.ensures in record {
+    longer later c.hand_window.new.receiver then on c.pause.new.self after c.in_ok-pause.ensures in record {
       some = omega (arith, c.more.ensures.some, so_far.some);
       fit = c.hand_window.ensures.fit ∙ so_far.fit;
       lies = lies_shifted longer c.shift.new.window later c.in_ok-progress-2.progress c.in_ok-progress.ensures.lies c.in_ok-progress-2.ensures;
