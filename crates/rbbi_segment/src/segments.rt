@@ -181,7 +181,6 @@ fn hand_searched<S: Chars, V: Receive, K: Sink, L: Ledger>(
         (K.taken out.new)) }
 {
     rbbi_model::next_boundary_is_past_the_start();
-    rbbi_model::searches_depend_on_what_they_read();
     table.valid();
     let len = searched.len();
     let mut now = progress;
