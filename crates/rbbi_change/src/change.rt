@@ -1,5 +1,5 @@
 //! What an edit changed.
-ghost use Rattle.std.specs.Prelude.{◌≡◌};
+ghost use Rattle.std.specs.Prelude.{◌≡◌, ◌≤◌, length};
 ghost use Rattle.rbbi_model.specs.Searches.{table_boundaries};
 ghost use Rattle.rbbi_cache.specs.Edits.{IsSpliced};
 ghost use Rattle.rbbi_change.specs.Changes.{IsLeastChange};
@@ -53,6 +53,7 @@ pub fn changed<S: Chars, T: Chars, L: Ledger>(
         edit.inserted }
     ensures least { IsLeastChange edit (table_boundaries table.now (S.characters old.now))
         (table_boundaries table.now (T.characters new.now)) result }
+    ensures within { result.old_to ≤ length (S.characters old.now) }
     ensures fit { marks.new ≡ marks.old }
 {
     table.valid();
