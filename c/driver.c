@@ -2,7 +2,8 @@
  * Plays a script as `rbbi run` does, through the C library: driver RULES TEXT SCRIPT UNIT. Places
  * count UNIT, one of chars, utf8 and utf16. Of the edits only `replace` is known, without escapes.
  * After each line the calls that read many boundaries at once, or a segment, are compared with the
- * questions; where they differ the status is 2.
+ * questions, and after each edit what it changed with the boundaries of both texts; where they differ
+ * the status is 2.
  */
 #include <rbbi.h>
 #include <stdio.h>
@@ -82,6 +83,88 @@ static void statuses(rbbi_session *session) {
     }
 }
 
+static void same(int is, const char *what) {
+    if (!is) {
+        fprintf(stderr, "driver: %s differs\n", what);
+        exit(2);
+    }
+}
+
+/* The boundaries of a text but the one at 0, with their statuses. */
+typedef struct {
+    uint32_t *places, *statuses;
+    size_t count;
+} listed;
+
+static listed list(rbbi_session *session) {
+    uint32_t length, resume;
+    must(rbbi_session_length(session, &length), "length");
+    listed all = {malloc((length + 1) * sizeof length), malloc((length + 1) * sizeof length), 0};
+    must(rbbi_session_boundaries(session, 0, UINT32_MAX, all.places, all.statuses, length + 1,
+                                 &all.count, &resume),
+         "boundaries");
+    return all;
+}
+
+static void release(listed all) {
+    free(all.places);
+    free(all.statuses);
+}
+
+/* Whether there is a boundary at a place, with a number there. */
+static int has(const listed *all, size_t i, uint32_t place) {
+    return i < all->count && all->places[i] == place;
+}
+
+static int differ(const listed *old, size_t i, uint32_t place, const listed *new, size_t k,
+                  uint32_t other) {
+    return has(old, i, place) != has(new, k, other)
+           || (has(old, i, place) && old->statuses[i] != new->statuses[k]);
+}
+
+/* Compares what an edit changed: outside of the range all is as before, and at its ends, where they
+   aren't the edit's, it isn't. */
+static void compare_change(const listed *old, const listed *new, uint32_t at, uint32_t remove,
+                           rbbi_change change) {
+    size_t i = 0, j = old->count, k = new->count;
+    same(change.from <= at && at + remove <= change.old_to, "the range");
+    while (i < j && i < k && old->places[i] < change.from && new->places[i] < change.from) {
+        same(!differ(old, i, old->places[i], new, i, old->places[i]), "before the range");
+        i++;
+    }
+    same((i == j || old->places[i] >= change.from) && (i == k || new->places[i] >= change.from),
+         "a boundary before the range");
+    same(change.from == at || differ(old, i, change.from, new, i, change.from), "the start");
+    while (j > 0 && k > 0 && old->places[j - 1] > change.old_to && new->places[k - 1] > change.new_to) {
+        j--;
+        k--;
+        same(!differ(old, j, old->places[j], new, k, old->places[j] - change.old_to + change.new_to),
+             "behind the range");
+    }
+    same((j == 0 || old->places[j - 1] <= change.old_to)
+             && (k == 0 || new->places[k - 1] <= change.new_to),
+         "a boundary behind the range");
+    same(change.old_to == at + remove
+             || differ(old, j ? j - 1 : old->count, change.old_to, new, k ? k - 1 : new->count,
+                       change.new_to),
+         "the end");
+}
+
+static int edit(rbbi_session *session, uint32_t at, uint32_t remove, const char *insert) {
+    rbbi_change change = {7, 7, 7};
+    listed old = list(session);
+    int answer = rbbi_session_replace_changed(session, at, remove, insert, strlen(insert), &change);
+    listed new = list(session);
+    if (answer == RBBI_OK) {
+        compare_change(&old, &new, at, remove, change);
+    } else {
+        same(change.from == 7 && change.old_to == 7 && change.new_to == 7, "a refused edit");
+    }
+    release(old);
+    release(new);
+    return answer;
+}
+
 static void play(rbbi_session *session, char *line) {
     uint32_t told = 0, a, b;
     int at;
@@ -108,16 +191,9 @@ static void play(rbbi_session *session, char *line) {
         statuses(session);
     } else if (sscanf(line, "replace %u %u%n", &a, &b, &at) == 2) {
         char *insert = line[at] == ' ' ? line + at + 1 : line + at;
-        edited(session, rbbi_session_replace(session, a, b, insert, strlen(insert)));
+        edited(session, edit(session, a, b, insert));
     } else {
         fprintf(stderr, "driver: %s\n", line);
-        exit(2);
-    }
-}
-
-static void same(int is, const char *what) {
-    if (!is) {
-        fprintf(stderr, "driver: %s differs\n", what);
         exit(2);
     }
 }

@@ -77,6 +77,9 @@ int main(void) {
             DONE(rbbi_session_replace(&session, 1000, 5, insert, sizeof insert));
         }
         wrong |= place_of(&session, 5) != 1000 || place_of(&session, 1000) != 3000;
+        rbbi_change change = {0, 0, 0};
+        DONE(rbbi_session_replace_changed(&session, 1500, 500, insert, 500, &change));
+        wrong |= change.from != 1500 || change.old_to != 2000 || change.new_to != 2000;
         DONE(rbbi_session_text(&session, 998, 1002, file, sizeof file, &length));
         wrong |= length != 4 || memcmp(file, "aa11", 4) != 0;
         DONE(rbbi_session_replace_utf16(&session, 0, 1, wide, 2, NULL));

@@ -105,6 +105,19 @@ int main(void) {
     IS(rbbi_session_statuses(&session, NULL, 0, &count), RBBI_ROOM);
     IS(count == 1, 1);
 
+    /* what an edit changed */
+    rbbi_change change = {77, 78, 79};
+    IS(rbbi_session_replace_changed(&session, 0, 0, "x", 1, NULL), RBBI_NULL);
+    IS(rbbi_session_replace_changed(&session, 0, 0, NULL, 1, &change), RBBI_NULL);
+    IS(rbbi_session_replace_changed(&session, 6, 2, "", 0, &change), RBBI_OUTSIDE);
+    IS(rbbi_session_replace_changed(&session, 4000000000u, 4000000000u, "", 0, &change), RBBI_OUTSIDE);
+    IS(rbbi_session_replace_changed(&session, 5, 1, "", 0, &change), RBBI_INSIDE);
+    IS(change.from == 77 && change.old_to == 78 && change.new_to == 79, 1);
+    IS(rbbi_session_replace_changed(&session, 5, 2, "34 5", 4, &change), RBBI_OK);
+    IS(change.from == 5 && change.old_to == 7 && change.new_to == 9, 1);
+    IS(rbbi_session_replace_changed(&session, 5, 4, "\xf0\x9f\x98\x80", 4, &change), RBBI_OK);
+    IS(change.from == 5 && change.old_to == 9 && change.new_to == 7, 1);
+
     /* many boundaries, a segment and the text */
     uint32_t places[2], resume = 77;
     char room[4];

@@ -38,6 +38,8 @@ uint32_t rbbi_c_open_utf16(rbbi_table *, const uint16_t *, size_t, uint32_t, rbb
 uint32_t rbbi_c_replace(rbbi_session *, uint32_t, uint32_t, const uint8_t *, size_t);
 uint32_t rbbi_c_replace_utf16(rbbi_session *, uint32_t, uint32_t, const uint16_t *, size_t,
                               uint32_t *);
+uint32_t rbbi_c_replace_changed(rbbi_session *, uint32_t, uint32_t, const uint8_t *, size_t,
+                                rbbi_change *);
 uint32_t rbbi_c_part(rbbi_session *, uint32_t, uint32_t, uint8_t *, size_t, size_t *);
 uint32_t rbbi_c_boundaries(rbbi_session *, uint32_t, uint32_t, uint32_t *, size_t, uint32_t *,
                            size_t, size_t *, uint32_t *);
@@ -270,6 +272,14 @@ int rbbi_session_replace(rbbi_session *session, uint32_t at, uint32_t remove, co
         return RBBI_NULL;
     }
     return (int)rbbi_c_replace(session, at, remove, from(insert), length);
+}
+
+int rbbi_session_replace_changed(rbbi_session *session, uint32_t at, uint32_t remove,
+                                 const char *insert, size_t length, rbbi_change *change) {
+    if (!session || (!insert && length) || !change) {
+        return RBBI_NULL;
+    }
+    return (int)rbbi_c_replace_changed(session, at, remove, from(insert), length, change);
 }
 
 int rbbi_session_replace_utf16(rbbi_session *session, uint32_t at, uint32_t remove,

@@ -47,7 +47,7 @@ extern "C" {
 #endif
 
 /* The version of this header: new calls raise its second number, changed ones its first. */
-#define RBBI_VERSION "2.1.0"
+#define RBBI_VERSION "2.2.0"
 
 /* A list of property files, a table and a session. */
 typedef struct rbbi_files {
@@ -105,6 +105,13 @@ typedef struct rbbi_fault {
     uint32_t byte;   /* its byte, from 0, or UINT32_MAX if it has none; of rules, the byte at the
                         line and column */
 } rbbi_fault;
+
+/* What an edit changed: a range of the old and of the new text, in the session's unit. */
+typedef struct rbbi_change {
+    uint32_t from;   /* where it begins, in both texts */
+    uint32_t old_to; /* where it ends in the old text */
+    uint32_t new_to; /* where it ends in the new text */
+} rbbi_change;
 
 /* A sentence that says what an answer is. */
 const char *rbbi_message(int answer);
@@ -176,6 +183,15 @@ void rbbi_session_close(rbbi_session *session);
    cursor to 0. The cost depends on what the edit touches, not on the length of the text. */
 int rbbi_session_replace(rbbi_session *session, uint32_t at, uint32_t remove, const char *insert,
                          size_t length);
+
+/* The same edit, which also writes to `change` what it changed: the least range that has the edit in
+   it and outside of which boundaries and their statuses are the old ones. A place before `from` is a
+   boundary exactly if it was one, and a place after `new_to` exactly if the place as far after
+   `old_to` was one, with the same statuses. At both ends of the range boundaries may differ. It
+   copies the characters that it removes first, and searches the old and the new text from a boundary
+   before the edit to one after it at which they meet again, however far that is. */
+int rbbi_session_replace_changed(rbbi_session *session, uint32_t at, uint32_t remove,
+                                 const char *insert, size_t length, rbbi_change *change);
 
 /* Replaces them by the `length` units of UTF-16 at `insert`. RBBI_LONE: as above. */
 int rbbi_session_replace_utf16(rbbi_session *session, uint32_t at, uint32_t remove,

@@ -8,3 +8,4 @@ pub mod Ranged
 pub mod Segments
 pub mod Spelled
 pub mod Compiled
+pub mod Telling

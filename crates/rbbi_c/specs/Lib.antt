@@ -14,4 +14,5 @@ pub mod Segments
 pub mod Listing
 pub mod Parts
 pub mod Wide
+pub mod Changing
 pub mod inner

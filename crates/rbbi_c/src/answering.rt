@@ -75,7 +75,7 @@ pub(crate) fn text_of(bytes: &[u8]) -> Result<&str, u32>
 }
 
 /// The code of what an edit answers.
-fn edit_code(edited: Result<(), UnitEditErr>) -> u32
+pub(crate) fn edit_code(edited: Result<(), UnitEditErr>) -> u32
     ensures { result ≡ code_of_edit edited }
 {
     match edited {

@@ -1,12 +1,15 @@
 //! A session that owns its table.
-ghost use Rattle.std.specs.Prelude.{◌≡◌, length, IfOk, chars};
+ghost use Rattle.std.specs.Prelude.{◌≡◌, length, IfOk, MatchResult, chars};
 ghost use Rattle.rbbi_c.specs.Asking.{question_of, told_of};
 ghost use Rattle.rbbi_session.specs.UnitSessions.{IsOpenedBy, offset_in};
 ghost use Rattle.rbbi_session.specs.Walks.{IsAsked, Edits, reply_to};
 ghost use Rattle.rbbi_session.specs.UnitWalks.{unit_view};
 ghost use Rattle.rbbi_c.specs.Reading.{AreListed};
+ghost use Rattle.rbbi_c.specs.Changing.{IsToldChange};
+ghost use Rattle.rbbi_c.specs.inner.Removing.{IsEditOf};
 
 use crate::asking::{Ask, Told, answered};
+use crate::changing::{Changed, replace_telling};
 use crate::copying::copy_front;
 use crate::shared::SharedTable;
 use rbbi_session::{Paused, UnitEditErr, UnitSession, Walk};
@@ -103,6 +106,52 @@ impl Desk {
         } = self;
         let mut session = UnitSession::resume(table.table(), paused, unit);
         let edited = session.replace(at, remove, insert, steps);
+        let paused = session.pause();
+        let desk = Desk {
+            table,
+            unit,
+            paused,
+            marks,
+        };
+        (desk, edited)
+    }
+
+    /// What an edit answers, and the session after it. Where it is accepted, what it changed is
+    /// written.
+    pub(crate) fn replace_telling<L: Ledger>(
+        self,
+        alloc: Global,
+        at: u32,
+        remove: u32,
+        insert: &str,
+        change: &mut Changed,
+        steps: &mut Steps<L>,
+    ) -> (Desk, Result<(), UnitEditErr>)
+        ensures edits { IsEditOf self at remove (chars insert.now) result.1 result.0 }
+        ensures told { MatchResult result.1 (λ _.
+            IsToldChange self result.0 at remove (chars insert.now) change.new)
+            (λ _. change.new ≡ change.old) }
+    {
+        let Desk {
+            table,
+            unit,
+            paused,
+            marks,
+        } = self;
+        let mut marks = marks;
+        let mut session = UnitSession::resume(table.table(), paused, unit);
+        let edited = replace_telling(
+            alloc,
+            table.table(),
+            unit,
+            &mut session,
+            at,
+            remove,
+            insert,
+            change,
+            &mut marks,
+            steps,
+        );
         let paused = session.pause();
         let desk = Desk {
             table,

@@ -4,6 +4,7 @@
 mod answering;
 mod asking;
 mod bounds;
+mod changing;
 mod codes;
 mod compiling;
 mod copying;
@@ -30,6 +31,7 @@ mod tables;
 mod tests;
 mod wide;
 
+pub use changing::{Changed, rbbi_c_replace_changed};
 pub use faults::Fault;
 pub use handle::Handle;
 pub use named::rbbi_c_table_named;

@@ -9,7 +9,7 @@ use std::alloc::{AllocError, Global};
 use std::sync::ledger::Ledger;
 
 /// The characters from a place to another, in UTF-8.
-fn spelled<L: Ledger>(
+pub(crate) fn spelled<L: Ledger>(
     alloc: Global,
     text: &Pieces,
     first: u32,

@@ -1,0 +1,45 @@
+use Rattle.std.proofs.Common.{◌+◌, ◌≤◌, chars, length, sym, ap, ◌∙◌, subst, string_bytes, arith}
+use Rattle.std.specs.Prelude.{slice_range}
+use Rattle.std.proofs.lemmas.Str.{chars_from_encodes, IsUtf8-string_bytes}
+use Rattle.rbbi_model.specs.Units.{offset_of}
+use Rattle.rbbi_session.proofs.UnitAnswering.{not_true, not_false}
+use Rattle.rbbi_session.proofs.UnitEditing.{place_at_whole, place_at_inside, edit_begins_inside, edit_ends_inside}
+use Rattle.rbbi_c.proofs.changing.removed_by.Goals as goal
+
+pub returns-then-not-first : goal.returns-then-not-first
+returns-then-not-first g c = λ w.
+    let unit = c.args.unit in let x = c.args.text.now in
+    let low : c.args.at + c.args.remove ≤ offset_of unit x (length x) =
+    subst (λ n. c.args.at + c.args.remove ≤ offset_of unit x n) c.len.ensures.exact
+    (omega (arith, c.if-at-units.false, c.if-remove-units.false, c.offset-units.ensures)) in
+    edit_begins_inside unit x c.args.at c.args.remove w low
+    (place_at_inside unit x c.args.at c.index-first.result c.index-first.ensures (not_true c.index-first.result.whole c.if-not-first.true))
+
+pub returns-then-not-end : goal.returns-then-not-end
+returns-then-not-end g c = λ w.
+    let unit = c.args.unit in let x = c.args.text.now in
+    let low : c.args.at + c.args.remove ≤ offset_of unit x (length x) =
+    subst (λ n. c.args.at + c.args.remove ≤ offset_of unit x n) c.len.ensures.exact
+    (omega (arith, c.if-at-units.false, c.if-remove-units.false, c.offset-units.ensures)) in
+    let first = place_at_whole unit x c.args.at c.index-first.result c.index-first.ensures (not_false c.index-first.result.whole c.if-not-first.false) in
+    edit_ends_inside unit x c.args.at c.args.remove w c.index-first.result.at low first
+    (place_at_inside unit x (c.args.at + c.args.remove) c.index-end.result c.index-end.ensures (not_true c.index-end.result.whole c.if-not-end.true))
+
+pub returns-in-Ok-new : goal.returns-in-Ok-new
+returns-in-Ok-new g c =
+    let unit = c.args.unit in let x = c.args.text.now in
+    record {
+      end = c.index-end.result.at;
+      first_is = place_at_whole unit x c.args.at c.index-first.result c.index-first.ensures (not_false c.index-first.result.whole c.if-not-first.false);
+      end_is = place_at_whole unit x (c.args.at + c.args.remove) c.index-end.result c.index-end.ensures
+          (not_false c.index-end.result.whole c.if-not-end.false);
+      order = c.index-end.ensures.greatest c.index-first.result.at c.index-first.ensures.within (omega (arith, c.index-first.ensures.before));
+      within = c.index-end.ensures.within;
+      low = subst (λ n. c.args.at + c.args.remove ≤ offset_of unit x n) c.len.ensures.exact
+          (omega (arith, c.if-at-units.false, c.if-remove-units.false, c.offset-units.ensures));
+      text_is =
+          c.in-Ok-new.ensures.0
+          ∙ ap chars c.deref.ensures
+          ∙ sym (chars_from_encodes (slice_range x c.index-first.result.at c.index-end.result.at) (string_bytes c.in-Ok.removed)
+          (IsUtf8-string_bytes c.in-Ok.removed) (sym c.in-Ok.ensures));
+    }

@@ -1,0 +1,12 @@
+use Rattle.std.proofs.Common.{◌≡◌, ◌-◌}
+use Rattle.rbbi_change.proofs.Parts.{AreTogether}
+use Rattle.rbbi_change.proofs.part.part_ways.Given as goal
+
+abbrev pub invariant-parting : goal.invariant-parting
+invariant-parting g l = record {
+  together : AreTogether l.table (g.S.Chars.characters l.old) (g.T.Chars.characters l.new) l.edit.at l.here l.there;
+  fit : l.marks ≡ l.table.slashes;
+}
+
+abbrev pub decreases-parting : goal.decreases-parting
+decreases-parting g l = l.edit.at - l.here.at

@@ -1,0 +1,15 @@
+use Rattle.std.proofs.Common.{◌≡◌, ◌+◌, ◌<◌, ◌≤◌, get_or}
+use Rattle.rbbi_model.specs.Tables.{category_of}
+use Rattle.rbbi_change.proofs.quiet.quiet_start.Given as goal
+
+-- the category of the character at the place, from which the walk goes back
+abbrev pub invariant-loop-place : goal.invariant-loop-place
+invariant-loop-place g l = record {
+  low : l.place + 2 ≤ l.at;
+  next : l.next ≡ category_of l.table.ranges (get_or (g.T.Chars.characters l.text) l.place 0);
+  category : l.next < l.table.categories;
+  fit : l.marks ≡ l.table.slashes;
+}
+
+abbrev pub decreases-loop-place : goal.decreases-loop-place
+decreases-loop-place g l = l.place

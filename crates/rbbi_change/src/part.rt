@@ -1,0 +1,71 @@
+//! Where the boundaries of the old and the new text part.
+ghost use Rattle.std.specs.Prelude.{◌≡◌, min};
+ghost use Rattle.rbbi_cache.specs.Edits.{IsSpliced};
+ghost use Rattle.rbbi_change.specs.inner.Reaching.{IsQuiet};
+ghost use Rattle.rbbi_change.specs.inner.Parting.{ArePartedAt};
+
+use crate::change::Edit;
+use crate::reached::{Reached, is_same, next_from};
+use rbbi_table::{FrontPlaces, Table};
+use rbbi_text::{Chars, Steps};
+use std::sync::ledger::Ledger;
+
+/// Where old and new boundaries part, and where the searches of both texts have come to.
+#[derive(Clone, Copy)]
+pub(crate) struct Parting {
+    pub(crate) from: u32,
+    pub(crate) old: Reached,
+    pub(crate) new: Reached,
+}
+
+/// Where two boundaries part that differ.
+fn parted(at: u32, old: Reached, new: Reached) -> Parting
+    ensures from { result.from ≡ min at (min old.at new.at) }
+    ensures old { result.old ≡ old }
+    ensures new { result.new ≡ new }
+{
+    Parting {
+        from: at.min(old.at.min(new.at)),
+        old,
+        new,
+    }
+}
+
+/// Goes on from a boundary of both texts, until boundaries differ or the edit is reached.
+pub(crate) fn part_ways<S: Chars, T: Chars, L: Ledger>(
+    table: &Table,
+    old: &S,
+    new: &T,
+    edit: Edit,
+    start: u32,
+    marks: &mut FrontPlaces,
+    steps: &mut Steps<L>,
+) -> Parting
+    requires fit { marks.old ≡ table.now.slashes }
+    requires edited { IsSpliced (S.characters old.now) (T.characters new.now) edit.at edit.removed
+        edit.inserted }
+    requires quiet { IsQuiet table.now (S.characters old.now) edit.at start }
+    ensures parted { ArePartedAt table.now (S.characters old.now) (T.characters new.now) edit.at
+        result }
+    ensures fit { marks.new ≡ marks.old }
+{
+    table.valid();
+    let _old_length = old.len();
+    let _new_length = new.len();
+    let mut here = Reached { at: start, list: 0 };
+    let mut there = here;
+    'parting: while here.at < edit.at {
+        let next = next_from(table, old, here.at, marks, steps);
+        let other = next_from(table, new, here.at, marks, steps);
+        if !is_same(table, next, other) {
+            return parted(edit.at, next, other);
+        }
+        here = next;
+        there = other;
+    }
+    Parting {
+        from: edit.at,
+        old: here,
+        new: there,
+    }
+}

@@ -1,0 +1,44 @@
+//! Where both texts are searched from.
+ghost use Rattle.std.specs.Prelude.{◌≡◌, ◌≤◌, length};
+ghost use Rattle.rbbi_change.specs.inner.Reaching.{IsQuiet};
+
+use rbbi_table::{FrontPlaces, Table};
+use rbbi_text::{Chars, Steps};
+use std::sync::ledger::Ledger;
+
+/// A boundary before a place, or 0, such that no search from before it looks past the place.
+///
+/// Where a safe pair begins and the search from there looks at the pair alone, so does each search
+/// that comes to the pair: after a safe pair all of them are in one row.
+pub(crate) fn quiet_start<T: Chars, L: Ledger>(
+    table: &Table,
+    text: &T,
+    at: u32,
+    marks: &mut FrontPlaces,
+    steps: &mut Steps<L>,
+) -> u32
+    requires fit { marks.old ≡ table.now.slashes }
+    requires within { at ≤ length (T.characters text.now) }
+    ensures quiet { IsQuiet table.now (T.characters text.now) at result }
+    ensures fit { marks.new ≡ marks.old }
+{
+    table.valid();
+    let _short = text.len();
+    if at < 4 {
+        return 0;
+    }
+    let mut place = at - 2;
+    let mut next = table.category(text.char_at(place, steps));
+    while place > 1 {
+        place -= 1;
+        let here = table.category(text.char_at(place, steps));
+        if table.is_safe(here, next) {
+            let found = table.next(text, place, marks, steps);
+            if found.look <= place + 2 {
+                return found.at;
+            }
+        }
+        next = here;
+    }
+    0
+}
