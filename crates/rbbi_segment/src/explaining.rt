@@ -434,6 +434,54 @@ fn past_the_end(alloc: Global, place: u32, end: u32) -> Failure {
     }
 }
 
+/// Explains all segments of a text by a table.
+fn explain_all<K: Sink, L: Ledger>(
+    alloc: Global,
+    table: &Table,
+    text: &PlainText,
+    receiver: &mut Explaining<'_>,
+    out: &mut K,
+    steps: &mut Steps<L>,
+) -> Result<(), Failure> {
+    let unit = receiver.unit;
+    let mut marks = FrontPlaces::new(alloc, table)?;
+    let start = Progress::START;
+    let _progress = hand_window(
+        table, &None, text, unit, true, &mut marks, start, receiver, out, steps,
+    )?;
+    receiver.end(out)?;
+    Ok(())
+}
+
+/// Explains a text by a table and what is known of its rules.
+fn explain_text<K: Sink, L: Ledger>(
+    alloc: Global,
+    request: &Request<'_>,
+    asked: Asked,
+    colors: Colors,
+    table: &Table,
+    known: Known<'_>,
+    text: &PlainText,
+    out: &mut K,
+    steps: &mut Steps<L>,
+) -> Result<(), Failure> {
+    let mut receiver = Explaining {
+        alloc,
+        known,
+        asked,
+        style: Style {
+            layout: Layout::Text,
+            wanted: request.wanted,
+            colors,
+        },
+        unit: request.unit,
+        is_met: false,
+        made: Vec::new(alloc),
+    };
+    explain_all(alloc, table, text, &mut receiver, out, steps)?;
+    answer_rest(alloc, text, request.unit, asked, receiver.is_met, out)
+}
+
 /// Says which rules of the rule file make each segment of the text that a request names, or what
 /// is at a place. It answers how many sequences of the text's bytes were replaced.
 pub(crate) fn explain<F: Files, R: Read, K: Sink, L: Ledger>(
@@ -455,34 +503,9 @@ pub(crate) fn explain<F: Files, R: Read, K: Sink, L: Ledger>(
     let colors = Colors::new(request.color, surroundings.output_is_terminal, no_color);
     let (table, known) = read_known(alloc, rules, request, faults, files, input, steps)?;
     let (text, replaced) = read_text(alloc, name, request.is_lossy, faults, files, input, steps)?;
-    let mut receiver = Explaining {
-        alloc,
-        known,
-        asked,
-        style: Style {
-            layout: Layout::Text,
-            wanted: request.wanted,
-            colors,
-        },
-        unit: request.unit,
-        is_met: false,
-        made: Vec::new(alloc),
-    };
-    let mut marks = FrontPlaces::new(alloc, &table)?;
-    let _progress = hand_window(
-        &table,
-        &None,
-        &text,
-        request.unit,
-        true,
-        &mut marks,
-        Progress::START,
-        &mut receiver,
-        out,
-        steps,
+    explain_text(
+        alloc, request, asked, colors, &table, known, &text, out, steps,
     )?;
-    receiver.end(out)?;
-    answer_rest(alloc, &text, request.unit, asked, receiver.is_met, out)?;
     Ok(replaced)
 }
 
