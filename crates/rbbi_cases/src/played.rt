@@ -12,13 +12,13 @@ use std::marker::Brand;
 use std::sync::ledger::{Blank, Ledger};
 
 /// No terminal is anywhere.
-fn surroundings(case: &Case) -> Surroundings {
+fn surroundings(block: u32) -> Surroundings {
     Surroundings {
         output_is_terminal: false,
         errors_are_on_terminal: false,
         no_color: false,
         sizes: Sizes {
-            block: case.block,
+            block,
             ..Sizes::USUAL
         },
     }
@@ -61,11 +61,13 @@ fn status_by<L: Ledger>(alloc: Global, case: &mut Case, steps: &mut Steps<L>) ->
     if !case.is_segment {
         return rbbi(alloc, &case.words, &mut case.files, &mut case.out, steps);
     }
+    let surroundings = surroundings(case.block);
+    let system = Memory { texts: &case.texts };
     segment(
         alloc,
         &case.words,
-        surroundings(case),
-        &Memory { texts: &case.texts },
+        surroundings,
+        &system,
         &mut case.files,
         &mut case.input.as_slice(),
         &mut case.out,
