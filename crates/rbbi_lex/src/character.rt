@@ -1,13 +1,7 @@
 //! Tests of a character.
 ghost use Rattle.std.specs.Prelude.{◌≡◌, ◌<◌, IsTrue, length, slice_get};
-ghost use Rattle.rbbi_lex.specs.Characters.{
-  is_bare,
-  is_line_end,
-  is_name_character,
-  is_name_start,
-  is_sign,
-  is_word_character,
-};
+ghost use Rattle.rbbi_lex.specs.Characters.{is_bare, is_line_end, is_name_character, is_name_start};
+ghost use Rattle.rbbi_lex.specs.Characters.{is_sign, is_word_character};
 
 use unicode::properties::{GeneralCategory, GeneralCategoryGroup, is_pattern_white_space};
 

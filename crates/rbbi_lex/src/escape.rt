@@ -1,16 +1,10 @@
 //! Escapes.
-ghost use Rattle.std.specs.Prelude.{◌≡◌, ◌+◌, ◌<◌, ◌≤◌, length};
+ghost use Rattle.std.specs.Prelude.{◌≡◌, ◌+◌, ◌<◌, ◌≤◌, length, SomeIff, slice_range};
 ghost use Rattle.std.specs.Char.{IsScalar};
-ghost use Rattle.std.specs.Prelude.{SomeIff, slice_range};
 ghost use Rattle.rbbi_text.specs.Numbers.{number};
 ghost use Rattle.rbbi_lex.specs.declared.case.Case.TheVariants.{Escape};
-ghost use Rattle.rbbi_lex.specs.Escapes.{
-  form_of,
-  FixedDigits,
-  DigitsInBraces,
-  OneOrTwoDigits,
-  EscapeGoesOn,
-};
+ghost use Rattle.rbbi_lex.specs.Escapes.{form_of, FixedDigits, DigitsInBraces, OneOrTwoDigits};
+ghost use Rattle.rbbi_lex.specs.Escapes.{EscapeGoesOn};
 ghost use Rattle.rbbi_lex.specs.inner.Steps.{IsRestBy, IsSpelling};
 
 use crate::character::{character_at, is_sign, stands_at};
@@ -85,14 +79,12 @@ fn digits(text: &[char], from: usize, count: usize) -> Option<Escaped>
     requires within { from ≤ length text.now }
     ensures { IsRestBy (FixedDigits text.now count from) result }
 {
-    if stretch_end(Stretch::HexadecimalDigits, text, from) < from + count {
+    let end = from + count;
+    if stretch_end(Stretch::HexadecimalDigits, text, from) < end {
         return None;
     }
-    let end = from + count;
-    match character_between(text, from, end) {
-        Some(character) => Some(Escaped { character, end }),
-        None => None,
-    }
+    let character = character_between(text, from, end)?;
+    Some(Escaped { character, end })
 }
 
 /// The character that the digits in braces stand for, if it is one.
@@ -105,13 +97,9 @@ fn braced_digits(text: &[char], from: usize) -> Option<Escaped>
     if end == start || end > start + 6 || !stands_at(text, end, '}') {
         return None;
     }
-    match character_between(text, start, end) {
-        Some(character) => Some(Escaped {
-            character,
-            end: end + 1,
-        }),
-        None => None,
-    }
+    let character = character_between(text, start, end)?;
+    let end = end + 1;
+    Some(Escaped { character, end })
 }
 
 /// The character that one or two digits stand for, if they are there.
@@ -124,10 +112,8 @@ fn few_digits(text: &[char], from: usize) -> Option<Escaped>
         return None;
     }
     let end = stretch.min(from + 2);
-    match character_between(text, from, end) {
-        Some(character) => Some(Escaped { character, end }),
-        None => None,
-    }
+    let character = character_between(text, from, end)?;
+    Some(Escaped { character, end })
 }
 
 /// The character that an escape of this form stands for, by what goes on after its first two
@@ -157,10 +143,7 @@ pub(crate) fn escape(text: &[char], at: usize) -> Option<Spelled>
     let second = character_at(text, at + 1)?;
     let from = at + 2;
     let form = form_of(second, character_at(text, from));
-    let escaped = rest_of_escape(text, form, from)?;
-    let c = escaped.character;
-    Some(Spelled {
-        kind: TokenKind::Char { c, bare: false },
-        end: escaped.end,
-    })
+    let Escaped { character: c, end } = rest_of_escape(text, form, from)?;
+    let kind = TokenKind::Char { c, bare: false };
+    Some(Spelled { kind, end })
 }

@@ -4,18 +4,14 @@ ghost use Rattle.rbbi_lex.specs.declared.case.Case.TheVariants.{Variable, Contro
 ghost use Rattle.rbbi_lex.specs.inner.Steps.{IsSpelling};
 
 use crate::character::{character_at, is_name_start};
-use crate::spelled::Spelled;
+use crate::spelled::{Spelled, Spelling};
 use crate::stretch::{Stretch, stretch_end};
 use crate::token::TokenKind;
 use crate::words::word_between;
-use std::alloc::{AllocError, Global};
+use std::alloc::Global;
 
 /// A name after the `$` at a place, if one begins there.
-pub(crate) fn variable(
-    alloc: Global,
-    text: &[char],
-    at: usize,
-) -> Result<Option<Spelled>, AllocError>
+pub(crate) fn variable(alloc: Global, text: &[char], at: usize) -> Spelling
     requires { at < length text.now }
     ensures { IfOk result (IsSpelling text.now Variable at) }
 {
@@ -30,11 +26,7 @@ pub(crate) fn variable(
 }
 
 /// A control after the `!!` at a place, if one letter, digit or `_` at least stands there.
-pub(crate) fn control(
-    alloc: Global,
-    text: &[char],
-    at: usize,
-) -> Result<Option<Spelled>, AllocError>
+pub(crate) fn control(alloc: Global, text: &[char], at: usize) -> Spelling
     requires { at < length text.now }
     ensures { IfOk result (IsSpelling text.now ControlName at) }
 {

@@ -5,7 +5,7 @@ ghost use Rattle.rbbi_lex.specs.Properties.{value_between};
 ghost use Rattle.rbbi_lex.specs.inner.Steps.{IsSpelling};
 
 use crate::character::stands_at;
-use crate::spelled::Spelled;
+use crate::spelled::{Spelled, Spelling};
 use crate::stretch::{Stretch, stretch_end};
 use crate::token::TokenKind;
 use crate::words::word_between;
@@ -30,11 +30,7 @@ fn value_word(
 }
 
 /// The property `\p{BODY}` or `\P{BODY}` at a place, if it is closed in its line.
-pub(crate) fn braced_property(
-    alloc: Global,
-    text: &[char],
-    at: usize,
-) -> Result<Option<Spelled>, AllocError>
+pub(crate) fn braced_property(alloc: Global, text: &[char], at: usize) -> Spelling
     requires { at < length text.now }
     ensures { IfOk result (IsSpelling text.now BracedProperty at) }
 {
@@ -54,11 +50,7 @@ pub(crate) fn braced_property(
 }
 
 /// The property `[:BODY:]` at a place, if it is closed in its line.
-pub(crate) fn bracketed_property(
-    alloc: Global,
-    text: &[char],
-    at: usize,
-) -> Result<Option<Spelled>, AllocError>
+pub(crate) fn bracketed_property(alloc: Global, text: &[char], at: usize) -> Spelling
     requires { at < length text.now }
     ensures { IfOk result (IsSpelling text.now BracketedProperty at) }
 {

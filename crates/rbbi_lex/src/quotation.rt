@@ -6,41 +6,27 @@ ghost use Rattle.rbbi_lex.specs.inner.Steps.{IsRestBy, IsSpelling};
 
 use crate::character::{character_at, is_line_end, stands_at};
 use crate::escape::Escaped;
-use crate::spelled::Spelled;
+use crate::spelled::{Spelled, Spelling};
 use crate::token::TokenKind;
 use rbbi_text::{Word, push_character};
-use std::alloc::{AllocError, Global};
+use std::alloc::Global;
 
 /// The next character within quotes: `''` is one quote, and each other character but a line
 /// terminator stands for itself.
 fn next_quoted(text: &[char], at: usize) -> Option<Escaped>
     ensures { IsRestBy (IsQuoted text.now at) result }
 {
-    let c = character_at(text, at)?;
-    if c == '\'' {
-        if stands_at(text, at + 1, '\'') {
-            return Some(Escaped {
-                character: c,
-                end: at + 2,
-            });
-        }
+    let character = character_at(text, at)?;
+    let is_quote = character == '\'';
+    if is_line_end(character) || (is_quote && !stands_at(text, at + 1, '\'')) {
         return None;
     }
-    if is_line_end(c) {
-        return None;
-    }
-    Some(Escaped {
-        character: c,
-        end: at + 1,
-    })
+    let end = if is_quote { at + 2 } else { at + 1 };
+    Some(Escaped { character, end })
 }
 
 /// The quoted sequence that opens at a place, if it isn't empty and is closed in its line.
-pub(crate) fn quotation(
-    alloc: Global,
-    text: &[char],
-    at: usize,
-) -> Result<Option<Spelled>, AllocError>
+pub(crate) fn quotation(alloc: Global, text: &[char], at: usize) -> Spelling
     requires { at < length text.now }
     ensures { IfOk result (IsSpelling text.now Quotation at) }
 {

@@ -1,22 +1,21 @@
 //! What a case of the tables spells.
-ghost use Rattle.std.specs.Prelude.{◌≡◌, ◌+◌, ◌<◌, length, IfOk};
+ghost use Rattle.std.specs.Prelude.{◌+◌, ◌<◌, length, IfOk};
 ghost use Rattle.rbbi_lex.specs.declared.case.Case.TheVariants.{Sign, SetSign, SetStart, QuotePair};
 ghost use Rattle.rbbi_lex.specs.declared.case.Case.TheVariants.{BareCharacter};
-ghost use Rattle.rbbi_lex.specs.Points.{CaseAt};
 ghost use Rattle.rbbi_lex.specs.Spellings.{SpellsBare};
 ghost use Rattle.rbbi_lex.specs.inner.Steps.{IsSpelling};
 
 use crate::case::Case;
-use crate::character::{character_at, stands_at};
+use crate::character::stands_at;
 use crate::escape::escape;
 use crate::name::{control, variable};
 use crate::property::{braced_property, bracketed_property};
 use crate::quotation::quotation;
 use crate::sign::{inner_sign, outer_sign};
-use crate::spelled::Spelled;
+use crate::spelled::{Spelled, Spelling};
 use crate::tag::tag;
 use crate::token::TokenKind;
-use std::alloc::{AllocError, Global};
+use std::alloc::Global;
 
 /// The token of the sign at a place outside of sets.
 fn outer(text: &[char], at: usize) -> Option<Spelled>
@@ -42,10 +41,8 @@ fn bare(text: &[char], at: usize) -> Spelled
     ensures { SpellsBare text.now at result.end result.kind }
 {
     let c = text[at];
-    Spelled {
-        kind: TokenKind::Char { c, bare: true },
-        end: at + 1,
-    }
+    let kind = TokenKind::Char { c, bare: true };
+    Spelled { kind, end: at + 1 }
 }
 
 /// One quote, where `''` stands at a place.
@@ -56,22 +53,13 @@ fn quote_pair(text: &[char], at: usize) -> Option<Spelled>
     if !stands_at(text, at + 1, '\'') {
         return None;
     }
-    Some(Spelled {
-        kind: TokenKind::Char {
-            c: '\'',
-            bare: false,
-        },
-        end: at + 2,
-    })
+    let c = '\'';
+    let kind = TokenKind::Char { c, bare: false };
+    Some(Spelled { kind, end: at + 2 })
 }
 
 /// What a case spells from a place on, if it spells a token there.
-pub(crate) fn spell(
-    alloc: Global,
-    text: &[char],
-    case: Case,
-    at: usize,
-) -> Result<Option<Spelled>, AllocError>
+pub(crate) fn spell(alloc: Global, text: &[char], case: Case, at: usize) -> Spelling
     requires { at < length text.now }
     ensures { IfOk result (IsSpelling text.now case at) }
 {

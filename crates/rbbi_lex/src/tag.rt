@@ -24,8 +24,7 @@ pub(crate) fn tag(text: &[char], at: usize) -> Option<Spelled>
         return None;
     }
     let number = number_of_characters(&text[start..end], 10, MOST_TAG)?;
-    Some(Spelled {
-        kind: TokenKind::Tag(number),
-        end: close + 1,
-    })
+    let kind = TokenKind::Tag(number);
+    let end = close + 1;
+    Some(Spelled { kind, end })
 }

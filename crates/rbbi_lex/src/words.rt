@@ -1,6 +1,5 @@
 //! Words that a text spells.
-ghost use Rattle.std.specs.Prelude.{◌≡◌, ◌++◌, [], ◌∷◌, ◌≤◌, length, slice_range, string_bytes};
-ghost use Rattle.std.specs.Prelude.{chars, IfOk, OnOk};
+ghost use Rattle.std.specs.Prelude.{◌≡◌, ◌≤◌, length, slice_range, IfOk};
 
 use rbbi_text::{Word, push_character};
 use std::alloc::{AllocError, Global};
