@@ -1,5 +1,6 @@
 //! Why a list of tokens is refused.
-ghost use Rattle.std.specs.Prelude.{◌≡◌, codes};
+ghost use Rattle.std.specs.Prelude.{◌≡◌};
+ghost use Rattle.rbbi_tree.specs.declared.error.TreeErr.TheVariants.{Memory};
 ghost use Rattle.rbbi_tree.specs.Refusals.{label_of, place_of};
 
 use std::alloc::{AllocError, AllocFailed};
@@ -45,8 +46,6 @@ impl TreeErr {
 }
 
 impl From<AllocError> for TreeErr {
-    ghost use Rattle.rbbi_tree.specs.declared.error.TreeErr.TheVariants.{Memory};
-
     ghost from_gives = { λ _ e. e ≡ Memory };
 
     fn from(_e: AllocError) -> TreeErr {
@@ -55,8 +54,6 @@ impl From<AllocError> for TreeErr {
 }
 
 impl<T: Drop> From<AllocFailed<T>> for TreeErr {
-    ghost use Rattle.rbbi_tree.specs.declared.error.TreeErr.TheVariants.{Memory};
-
     ghost from_gives = { λ _ e. e ≡ Memory };
 
     fn from(_e: AllocFailed<T>) -> TreeErr {

@@ -24,9 +24,8 @@ pub fn at_most_one_deep()
 
 /// Law: a list of tokens is a rule file in which no bracket makes 65 open ones, or it has a fault.
 pub fn file_or_fault()
-    ensures { (tokens : List Token) (end : ℕ) →
-        ((statements : List StatementTree) × IsFile tokens statements × IsShallow tokens)
-        ⊎ ((fault : TreeErr) × IsFaultOf tokens end fault) }
+    ensures { (tokens : List Token) (end : ℕ) → ((statements : List StatementTree) × IsFile
+        tokens statements × IsShallow tokens) ⊎ ((fault : TreeErr) × IsFaultOf tokens end fault) }
 {}
 
 /// Law: a rule file in which no bracket makes 65 open ones has no fault.

@@ -1,14 +1,8 @@
 //! An expression that is being read.
 ghost use Rattle.std.specs.Prelude.{◌≡◌, OnOk, IfOk};
 ghost use Rattle.rbbi_tree.specs.Values.{item_tree, expr_tree};
-ghost use Rattle.rbbi_tree.specs.inner.Statements.{
-  empty_level,
-  with_item,
-  with_sequence,
-  whole,
-  quantified,
-  sole_name,
-};
+ghost use Rattle.rbbi_tree.specs.inner.Statements.{empty_level, with_item, with_sequence, whole};
+ghost use Rattle.rbbi_tree.specs.inner.Statements.{quantified, sole_name};
 ghost use Rattle.rbbi_tree.specs.inner.SetStates.{FollowsMachine};
 ghost use Rattle.rbbi_tree.specs.inner.States.{level_tree};
 
@@ -91,17 +85,13 @@ impl Level {
         ensures { let l = level_tree self in
             FollowsMachine place (sole_name l.sequences l.items) (λ word. word) result }
     {
-        if !self.sequences.is_empty() {
-            return Err(TreeErr::Syntax(place));
-        }
         let Some(item) = self.items.pop() else {
             return Err(TreeErr::Syntax(place));
         };
-        if !self.items.is_empty() {
+        if !self.sequences.is_empty() || !self.items.is_empty() {
             return Err(TreeErr::Syntax(place));
         }
-        let Item { atom, quant, .. } = item;
-        match (atom, quant) {
+        match (item.atom, item.quant) {
             (Atom::Name(word), Quant::Once) => Ok(word),
             _ => Err(TreeErr::Syntax(place)),
         }

@@ -2,20 +2,12 @@
 mod ends;
 mod sets;
 
-ghost use Rattle.std.specs.Prelude.{◌≡◌, [], None, OnOk, IfOk, IsTrue};
+ghost use Rattle.std.specs.Prelude.{◌≡◌, [], None, OnOk, IsTrue};
 ghost use Rattle.rbbi_tree.specs.Values.{atom_tree, statement_trees};
-ghost use Rattle.rbbi_tree.specs.inner.Statements.{
-  after,
-  between,
-  begun,
-  atom_read,
-  advance,
-  at_atom,
-  at_quant,
-  quantified,
-};
+ghost use Rattle.rbbi_tree.specs.inner.Statements.{after, between, begun, atom_read, advance};
+ghost use Rattle.rbbi_tree.specs.inner.Statements.{at_atom};
 ghost use Rattle.rbbi_tree.specs.inner.SetStates.{FollowsMachine};
-ghost use Rattle.rbbi_tree.specs.inner.States.{progress, ReadsOutside, ReadsInside};
+ghost use Rattle.rbbi_tree.specs.inner.States.{progress, ReadsOutside};
 
 use crate::copies::{copy_of, copy_of_option};
 use crate::error::TreeErr;
@@ -109,15 +101,12 @@ impl Parser {
         ensures { let p = progress self.old in
             FollowsMachine place (begun place p.head p) (λ _. progress self.new) result }
     {
+        let no_chain_in = false;
         match &self.head {
-            Head::Between => {}
-            Head::Assign { .. } | Head::Rule { .. } | Head::Rest { .. } => return Ok(()),
+            Head::Between => self.head = Head::Rule { place, no_chain_in },
+            Head::Assign { .. } | Head::Rule { .. } | Head::Rest { .. } => {}
             Head::Whole(_) => return Err(TreeErr::Syntax(place)),
         }
-        self.head = Head::Rule {
-            place,
-            no_chain_in: false,
-        };
         Ok(())
     }
 
@@ -126,11 +115,8 @@ impl Parser {
         ensures { OnOk result
             (progress self.new ≡ atom_read place (atom_tree atom) (progress self.old)) }
     {
-        self.level.push(Item {
-            place,
-            atom,
-            quant: Quant::Once,
-        })
+        let quant = Quant::Once;
+        self.level.push(Item { place, atom, quant })
     }
 
     /// Reads an atom of one token.
@@ -158,10 +144,9 @@ impl Parser {
         ensures { ReadsOutside TokenKind.SetOpen place self.old result self.new }
     {
         self.begin(place)?;
-        self.sets = Some(OpenSets {
-            innermost: SetLevel::new(alloc, place),
-            outers: Vec::new(alloc),
-        });
+        let innermost = SetLevel::new(alloc, place);
+        let outers = Vec::new(alloc);
+        self.sets = Some(OpenSets { innermost, outers });
         Ok(())
     }
 
@@ -181,23 +166,12 @@ impl Parser {
         Ok(())
     }
 
-    /// Reads a sign how often an atom stands. It needs an atom right before it.
-    fn read_quant(&mut self, place: u32, quant: Quant) -> Result<(), TreeErr>
-        ensures { let p = progress self.old in
-            FollowsMachine place (at_quant (quantified quant p.level.items) p)
-            (λ _. progress self.new) result }
-    {
-        self.level.quantify(place, quant)
-    }
-
     /// Reads a bar. It needs an item before it, and stands beside no slash.
     fn read_bar(&mut self, alloc: Global, place: u32) -> Result<(), TreeErr>
         ensures { ReadsOutside TokenKind.Bar place self.old result self.new }
     {
-        if self.level.items.is_empty() {
-            return Err(TreeErr::Syntax(place));
-        }
-        if self.groups.is_empty() && matches!(&self.head, Head::Rest { .. }) {
+        let in_rest = self.groups.is_empty() && matches!(&self.head, Head::Rest { .. });
+        if self.level.items.is_empty() || in_rest {
             return Err(TreeErr::Syntax(place));
         }
         self.level.end_sequence(alloc)?;
@@ -205,29 +179,23 @@ impl Parser {
     }
 
     /// Reads a slash. It needs a front of one sequence before it, and no open group.
-    fn read_slash(&mut self, alloc: Global, place: u32) -> Result<(), TreeErr>
-        ensures { ReadsOutside TokenKind.Slash place self.old result self.new }
+    fn read_slash(&mut self, alloc: Global, slash: u32) -> Result<(), TreeErr>
+        ensures { ReadsOutside TokenKind.Slash slash self.old result self.new }
     {
-        if self.level.items.is_empty()
-            || !self.level.sequences.is_empty()
-            || !self.groups.is_empty()
-        {
-            return Err(TreeErr::Syntax(place));
+        let is_front = !self.level.items.is_empty() && self.level.sequences.is_empty();
+        if !is_front || !self.groups.is_empty() {
+            return Err(TreeErr::Syntax(slash));
         }
-        let Head::Rule {
-            place: at,
-            no_chain_in,
-        } = self.head
-        else {
-            return Err(TreeErr::Syntax(place));
+        let Head::Rule { place, no_chain_in } = self.head else {
+            return Err(TreeErr::Syntax(slash));
         };
         let level = mem::replace(&mut self.level, Level::new(alloc));
         let front = level.into_expr()?;
         self.head = Head::Rest {
-            place: at,
+            place,
             no_chain_in,
             front,
-            slash: place,
+            slash,
         };
         Ok(())
     }
@@ -239,10 +207,8 @@ impl Parser {
         let Head::Between = &self.head else {
             return Err(TreeErr::Syntax(place));
         };
-        self.head = Head::Rule {
-            place,
-            no_chain_in: true,
-        };
+        let no_chain_in = true;
+        self.head = Head::Rule { place, no_chain_in };
         Ok(())
     }
 
@@ -289,16 +255,13 @@ impl Parser {
             TokenKind::Bar => self.read_bar(alloc, place),
             TokenKind::Slash => self.read_slash(alloc, place),
             TokenKind::Caret => self.read_caret(place),
-            TokenKind::Star => self.read_quant(place, Quant::Star),
-            TokenKind::Plus => self.read_quant(place, Quant::Plus),
-            TokenKind::Quest => self.read_quant(place, Quant::Quest),
+            TokenKind::Star => self.level.quantify(place, Quant::Star),
+            TokenKind::Plus => self.level.quantify(place, Quant::Plus),
+            TokenKind::Quest => self.level.quantify(place, Quant::Quest),
             TokenKind::Dot => self.read_atom(place, Atom::Any),
             TokenKind::ParenOpen => self.begin_group(alloc, place),
             TokenKind::ParenClose => self.end_group(place),
             TokenKind::SetOpen => self.begin_set(alloc, place),
-            TokenKind::SetClose | TokenKind::Hyphen | TokenKind::Amp => {
-                Err(TreeErr::Syntax(place))
-            }
             TokenKind::Char { c, bare } => {
                 let atom = Atom::Char { c: *c, bare: *bare };
                 self.read_atom(place, atom)
@@ -319,6 +282,7 @@ impl Parser {
                 };
                 self.read_atom(place, atom)
             }
+            _ => Err(TreeErr::Syntax(place)),
         }
     }
 

@@ -3,29 +3,12 @@ ghost use Rattle.std.specs.Prelude.{◌≡◌, ◌∷◌, List, Some, OnOk, IfOk
 ghost use Rattle.rbbi_tree.specs.Grammar.{hyphen_at};
 ghost use Rattle.rbbi_tree.specs.Trees.{PartTree, joined};
 ghost use Rattle.rbbi_tree.specs.Values.{set_item_tree, set_tree};
-ghost use Rattle.rbbi_tree.specs.inner.Sets.{
-  new_set_level,
-  level_with,
-  settled,
-  at_set_caret,
-  at_set_hyphen,
-  at_set_amp,
-  at_set_character,
-  at_set_operand,
-  at_set_token,
-  join_in,
-  ended_parts,
-  set_from,
-  outer_set,
-  set_resumed,
-};
-ghost use Rattle.rbbi_tree.specs.inner.SetStates.{
-  set_level_tree,
-  outer_set_tree,
-  IsStuckAt,
-  FollowsMachine,
-  ReadsInSet,
-};
+ghost use Rattle.rbbi_tree.specs.inner.Sets.{new_set_level, level_with, settled, at_set_caret};
+ghost use Rattle.rbbi_tree.specs.inner.Sets.{at_set_hyphen, at_set_amp, at_set_character};
+ghost use Rattle.rbbi_tree.specs.inner.Sets.{at_set_operand, at_set_token, join_in, ended_parts};
+ghost use Rattle.rbbi_tree.specs.inner.Sets.{set_from, outer_set, set_resumed};
+ghost use Rattle.rbbi_tree.specs.inner.SetStates.{set_level_tree, outer_set_tree, IsStuckAt};
+ghost use Rattle.rbbi_tree.specs.inner.SetStates.{FollowsMachine, ReadsInSet};
 
 use crate::copies::{copy_of, copy_of_option};
 use crate::error::TreeErr;
@@ -141,22 +124,16 @@ impl SetLevel {
 
     /// Reads a hyphen: the character where it stands right after the opening, or else the sign of a
     /// range or of a difference, or the character right before the end.
-    fn read_hyphen(&mut self, place: u32) -> Result<(), TreeErr>
+    fn read_hyphen(&mut self, hyphen: u32) -> Result<(), TreeErr>
         ensures { let s = set_level_tree self.old in
-            ReadsInSet place (at_set_hyphen place s.state s) result self.new }
+            ReadsInSet hyphen (at_set_hyphen hyphen s.state s) result self.new }
     {
         match self.state {
-            SetState::Opened | SetState::Begun => self.push_hyphen(place)?,
-            SetState::Apart => self.state = SetState::Last { hyphen: place },
-            SetState::Character { c, place: first } => {
-                self.state = SetState::Ranging {
-                    c,
-                    place: first,
-                    hyphen: place,
-                };
-            }
-            SetState::Operand => self.state = SetState::Minus { hyphen: place },
-            _ => return Err(TreeErr::Syntax(place)),
+            SetState::Opened | SetState::Begun => self.push_hyphen(hyphen)?,
+            SetState::Apart => self.state = SetState::Last { hyphen },
+            SetState::Character { c, place } => self.state = SetState::Ranging { c, place, hyphen },
+            SetState::Operand => self.state = SetState::Minus { hyphen },
+            _ => return Err(TreeErr::Syntax(hyphen)),
         }
         Ok(())
     }
@@ -179,18 +156,6 @@ impl SetLevel {
             ReadsInSet place (at_set_character c place s.state s) result self.new }
     {
         match self.state {
-            SetState::Opened | SetState::Begun | SetState::Apart | SetState::Operand => {
-                self.state = SetState::Character { c, place };
-            }
-            SetState::Character {
-                c: lone,
-                place: first,
-            } => self.push(
-                first,
-                Join::Add,
-                SetItem::Char(lone),
-                SetState::Character { c, place },
-            )?,
             SetState::Ranging {
                 c: low,
                 place: first,
@@ -198,6 +163,10 @@ impl SetLevel {
             } => self.push(first, Join::Add, SetItem::Range(low, c), SetState::Apart)?,
             SetState::Both | SetState::Minus { .. } | SetState::Last { .. } => {
                 return Err(TreeErr::Syntax(place));
+            }
+            _ => {
+                self.settle()?;
+                self.state = SetState::Character { c, place };
             }
         }
         Ok(())
@@ -208,14 +177,10 @@ impl SetLevel {
         ensures { result ≡ join_in self.now.state }
     {
         match self.state {
-            SetState::Opened
-            | SetState::Begun
-            | SetState::Apart
-            | SetState::Character { .. }
-            | SetState::Operand => Some(Join::Add),
             SetState::Both => Some(Join::Both),
             SetState::Minus { .. } => Some(Join::Minus),
             SetState::Ranging { .. } | SetState::Last { .. } => None,
+            _ => Some(Join::Add),
         }
     }
 
@@ -234,9 +199,8 @@ impl SetLevel {
 
     /// Reads a token that neither begins nor ends a set.
     pub fn read(&mut self, alloc: Global, token: &Token) -> Result<(), TreeErr>
-        ensures { ReadsInSet token.now.place
-            (at_set_token token.now.kind token.now.place (set_level_tree self.old))
-            result self.new }
+        ensures { ReadsInSet token.now.place (at_set_token
+            token.now.kind token.now.place (set_level_tree self.old)) result self.new }
     {
         let place = token.place;
         match &token.kind {
@@ -252,16 +216,12 @@ impl SetLevel {
                 name,
                 value,
             } => {
-                let name = copy_of(alloc, name)?;
-                let value = copy_of_option(alloc, value)?;
-                self.read_operand(
-                    place,
-                    SetItem::Prop {
-                        negated: *negated,
-                        name,
-                        value,
-                    },
-                )
+                let item = SetItem::Prop {
+                    negated: *negated,
+                    name: copy_of(alloc, name)?,
+                    value: copy_of_option(alloc, value)?,
+                };
+                self.read_operand(place, item)
             }
             _ => Err(TreeErr::Syntax(place)),
         }
@@ -269,9 +229,8 @@ impl SetLevel {
 
     /// Makes this an outer set, in which another one begins at this place.
     pub fn into_outer_set(mut self, place: u32) -> Result<OuterSet, TreeErr>
-        ensures { MatchResult result
-            (λ o. (j : Join) × (join_in self.state ≡ Some j)
-            × (outer_set_tree o ≡ outer_set (set_level_tree self) j))
+        ensures { MatchResult result (λ o. (j : Join) ×
+            (join_in self.state ≡ Some j) × (outer_set_tree o ≡ outer_set (set_level_tree self) j))
             (IsStuckAt place (join_in self.state)) }
     {
         let Some(join) = self.join() else {
@@ -283,48 +242,33 @@ impl SetLevel {
 
     /// The set that ends with a bracket at this place, which needs no operand before it.
     pub fn into_set(mut self, place: u32) -> Result<SetExpr, TreeErr>
-        ensures { let s = set_level_tree self in MatchResult result
-            (λ set. (parts : List PartTree) × (ended_parts s.state s.parts ≡ Some parts)
-            × (set_tree set ≡ set_from s parts))
-            (IsStuckAt place (ended_parts s.state s.parts)) }
+        ensures { let s = set_level_tree self in MatchResult
+            result (λ set. (parts : List PartTree) × (ended_parts s.state s.parts ≡ Some parts)
+            × (set_tree set ≡ set_from s parts)) (IsStuckAt place (ended_parts s.state s.parts)) }
     {
         self.add_pending(place)?;
-        let SetLevel {
-            place,
-            negated,
-            parts,
-            ..
-        } = self;
         Ok(SetExpr {
-            place,
-            negated,
-            parts: Parts { items: parts },
+            place: self.place,
+            negated: self.negated,
+            parts: Parts { items: self.parts },
         })
     }
 
     /// Adds what was read last and is no part yet, where the set may end.
-    fn add_pending(&mut self, place: u32) -> Result<(), TreeErr>
-        ensures read { let s = set_level_tree self.old in
-            FollowsMachine place (ended_parts s.state s.parts)
-            (λ _. (set_level_tree self.new).parts) result }
+    fn add_pending(&mut self, end: u32) -> Result<(), TreeErr>
+        ensures read { let s = set_level_tree self.old in FollowsMachine
+            end (ended_parts s.state s.parts) (λ _. (set_level_tree self.new).parts) result }
         ensures same { OnOk result
             ((self.new.place ≡ self.old.place) × (self.new.negated ≡ self.old.negated)) }
     {
         match self.state {
-            SetState::Opened | SetState::Begun | SetState::Apart | SetState::Operand => {}
-            SetState::Character { c, place: first } => {
-                self.push(first, Join::Add, SetItem::Char(c), SetState::Apart)?;
-            }
-            SetState::Ranging {
-                c,
-                place: first,
-                hyphen,
-            } => {
-                self.push(first, Join::Add, SetItem::Char(c), SetState::Apart)?;
+            SetState::Ranging { c, place, hyphen } => {
+                self.push(place, Join::Add, SetItem::Char(c), SetState::Apart)?;
                 self.push_hyphen(hyphen)?;
             }
             SetState::Minus { hyphen } | SetState::Last { hyphen } => self.push_hyphen(hyphen)?,
-            SetState::Both => return Err(TreeErr::Syntax(place)),
+            SetState::Both => return Err(TreeErr::Syntax(end)),
+            _ => self.settle()?,
         }
         Ok(())
     }

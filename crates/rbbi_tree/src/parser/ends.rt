@@ -2,13 +2,8 @@
 ghost use Rattle.std.specs.Prelude.{◌≡◌, OnOk};
 ghost use Rattle.rbbi_lex.specs.declared.token.TokenKind.TheVariants as TokenKind;
 ghost use Rattle.rbbi_tree.specs.Values.{statement_tree};
-ghost use Rattle.rbbi_tree.specs.inner.Statements.{
-  between,
-  with_head_alone,
-  with_statement,
-  at_semi,
-  statement_at,
-};
+ghost use Rattle.rbbi_tree.specs.inner.Statements.{between, with_head_alone, with_statement};
+ghost use Rattle.rbbi_tree.specs.inner.Statements.{at_semi, statement_at};
 ghost use Rattle.rbbi_tree.specs.inner.SetStates.{FollowsMachine};
 ghost use Rattle.rbbi_tree.specs.inner.States.{progress, ReadsOutside};
 
@@ -25,34 +20,27 @@ impl Parser {
     fn take_statement(
         &mut self,
         alloc: Global,
-        place: u32,
+        end: u32,
         tag: Option<u32>,
     ) -> Result<Statement, TreeErr>
         ensures read { let p = progress self.old in
-            FollowsMachine place (statement_at p.level.items p.groups tag p) statement_tree result }
+            FollowsMachine end (statement_at p.level.items p.groups tag p) statement_tree result }
         ensures head_alone { OnOk result
             (progress self.new ≡ with_head_alone between (progress self.old)) }
     {
         if self.level.items.is_empty() || !self.groups.is_empty() {
-            return Err(TreeErr::Syntax(place));
+            return Err(TreeErr::Syntax(end));
         }
         let level = mem::replace(&mut self.level, Level::new(alloc));
         let expr = level.into_expr()?;
         match mem::replace(&mut self.head, Head::Between) {
-            Head::Between | Head::Whole(_) => Err(TreeErr::Syntax(place)),
-            Head::Assign { name, place: at } => match tag {
-                None => Ok(Statement::Assign {
-                    name,
-                    place: at,
-                    expr,
-                }),
-                Some(_) => Err(TreeErr::Syntax(place)),
+            Head::Between | Head::Whole(_) => Err(TreeErr::Syntax(end)),
+            Head::Assign { name, place } => match tag {
+                None => Ok(Statement::Assign { name, place, expr }),
+                Some(_) => Err(TreeErr::Syntax(end)),
             },
-            Head::Rule {
-                place: at,
-                no_chain_in,
-            } => Ok(Statement::Rule {
-                place: at,
+            Head::Rule { place, no_chain_in } => Ok(Statement::Rule {
+                place,
                 no_chain_in,
                 front: expr,
                 slash: None,
@@ -60,12 +48,12 @@ impl Parser {
                 tag,
             }),
             Head::Rest {
-                place: at,
+                place,
                 no_chain_in,
                 front,
                 slash,
             } => Ok(Statement::Rule {
-                place: at,
+                place,
                 no_chain_in,
                 front,
                 slash: Some(slash),

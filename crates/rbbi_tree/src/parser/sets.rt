@@ -14,16 +14,10 @@ impl Parser {
     fn begin_inner_set(&mut self, alloc: Global, sets: OpenSets, place: u32) -> Result<(), TreeErr>
         ensures { ReadsInside TokenKind.SetOpen place sets self.old result self.new }
     {
-        let OpenSets {
-            innermost,
-            mut outers,
-        } = sets;
-        let outer = innermost.into_outer_set(place)?;
-        outers.push(outer)?;
-        self.sets = Some(OpenSets {
-            innermost: SetLevel::new(alloc, place),
-            outers,
-        });
+        let mut outers = sets.outers;
+        outers.push(sets.innermost.into_outer_set(place)?)?;
+        let innermost = SetLevel::new(alloc, place);
+        self.sets = Some(OpenSets { innermost, outers });
         Ok(())
     }
 
@@ -32,20 +26,14 @@ impl Parser {
         requires { self.old.sets ≡ None }
         ensures { ReadsInside TokenKind.SetClose place sets self.old result self.new }
     {
-        let OpenSets {
-            innermost,
-            mut outers,
-        } = sets;
-        let at = innermost.place;
-        let set = innermost.into_set(place)?;
+        let at = sets.innermost.place;
+        let set = sets.innermost.into_set(place)?;
+        let mut outers = sets.outers;
         let Some(outer) = outers.pop() else {
-            self.push_atom(at, Atom::Set(set))?;
-            return Ok(());
+            return Ok(self.push_atom(at, Atom::Set(set))?);
         };
-        self.sets = Some(OpenSets {
-            innermost: outer.resumed(set, at)?,
-            outers,
-        });
+        let innermost = outer.resumed(set, at)?;
+        self.sets = Some(OpenSets { innermost, outers });
         Ok(())
     }
 
