@@ -1,19 +1,18 @@
 //! The trees of expressions, with the sets of their leaves.
-ghost use Rattle.std.specs.Prelude.{◌≡◌, ◌+◌, ◌<◌, ◌≤◌, ℕ, [], ◌∷◌, Option, Some};
-ghost use Rattle.std.specs.Prelude.{IfOk, IfSome, IfNone, OnOk, length, map, slice_get};
+ghost use Rattle.std.specs.Prelude.{◌≡◌, ◌+◌, ◌<◌, ◌≤◌, ℕ, [], ◌∷◌, Option, Some, IfOk, IfSome};
+ghost use Rattle.std.specs.Prelude.{IfNone, OnOk, length, map, slice_get};
 ghost use Rattle.rbbi_model.specs.SetTrees as model;
 ghost use Rattle.rbbi_classes.specs.Classes.{ClassBits};
 ghost use Rattle.rbbi_tree.specs.Trees.{ExprTree};
 ghost use Rattle.rbbi_tree.specs.Values.{statement_trees, expr_tree, seq_tree, item_tree};
 ghost use Rattle.rbbi_tree.specs.Values.{atom_tree};
-ghost use Rattle.rbbi_resolve.specs.Expressions.{word_of, leaf_of, meaning_of_expr};
-ghost use Rattle.rbbi_resolve.specs.Expressions.{meaning_of_seq, meaning_of_item, meaning_of_atom};
+ghost use Rattle.rbbi_resolve.specs.Expressions.{word_of, leaf_of, meaning_of_expr, meaning_of_seq};
+ghost use Rattle.rbbi_resolve.specs.Expressions.{meaning_of_item, meaning_of_atom};
 ghost use Rattle.rbbi_resolve.specs.inner.Contexts.{context_of, division_of};
 ghost use Rattle.rbbi_resolve.specs.inner.OwnLeaves.{leaves_of_expr, leaves_of_seq, leaves_of_item};
 ghost use Rattle.rbbi_resolve.specs.inner.OwnLeaves.{leaves_of_atom, IsLawfulRow};
 ghost use Rattle.rbbi_resolve.specs.inner.Builders.{StandFrom, Builds, IsBuilder, IsAssigned};
-ghost use Rattle.rbbi_resolve.specs.inner.Builders.{AddsTree};
-ghost use Rattle.rbbi_resolve.specs.inner.Builders.{Extends, IsReady};
+ghost use Rattle.rbbi_resolve.specs.inner.Builders.{AddsTree, Extends, IsReady};
 
 use crate::context::Context;
 use crate::rules::Tree;
@@ -72,9 +71,8 @@ impl Builder {
         requires row { IsLawfulRow (division_of context.now)
             (slice_get leaves.now.rows.items place) }
         ensures on { OnOk result (Extends context.now leaves.now self.old self.new) }
-        ensures number { IfOk result (λ number. (row : ClassBits)
-            → slice_get leaves.now.rows.items place ≡ Some (Some row)
-            → slice_get self.new.rows.items number ≡ Some row) }
+        ensures number { IfOk result (λ number. (row : ClassBits) → slice_get leaves.now.rows.items
+            place ≡ Some (Some row) → slice_get self.new.rows.items number ≡ Some row) }
         ensures fresh { IfOk result (λ number. (k : ℕ) → length self.old.rows.items ≤ k
             → k < length self.new.rows.items → k ≡ number) }
     {
@@ -108,9 +106,8 @@ impl Builder {
         ensures on { OnOk result (Extends context.now leaves.now self.old self.new) }
         ensures moved { OnOk result (next.new ≡ next.old + 1) }
         ensures added { OnOk result ((value : Option model.SetTree)
-            → StandFrom context.now leaves.now next.old (value ∷ [])
-            → AddsTree context.now self.old self.new (leaf_of value) trees.old.items
-            trees.new.items) }
+            → StandFrom context.now leaves.now next.old (value ∷ []) → AddsTree
+            context.now self.old self.new (leaf_of value) trees.old.items trees.new.items) }
     {
         let number = self.number_of(context, leaves, *next)?;
         *next += 1;

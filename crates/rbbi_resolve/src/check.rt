@@ -1,6 +1,5 @@
 //! The faults of expressions, and their counts.
-ghost use Rattle.std.specs.Prelude.{◌≡◌, ◌++◌, ℕ, List, Option, Some, IfOk, IfSome, OnOk};
-ghost use Rattle.std.specs.Prelude.{[], ◌∷◌};
+ghost use Rattle.std.specs.Prelude.{◌≡◌, ◌++◌, ℕ, List, Option, Some, IfOk, IfSome, OnOk, [], ◌∷◌};
 ghost use Rattle.rbbi_model.specs.SetTrees as model;
 ghost use Rattle.rbbi_props.specs.Rows.{File};
 ghost use Rattle.rbbi_tree.specs.Trees.{name as named_atom, property as property_atom};
@@ -22,8 +21,8 @@ ghost use Rattle.rbbi_resolve.specs.inner.Covered.{AreCovered, Respects, SetResp
 ghost use Rattle.rbbi_classes.specs.Divisions.{stand_in};
 ghost use Rattle.rbbi_resolve.specs.inner.Faults.{noted_parts};
 ghost use Rattle.rbbi_resolve.specs.Faults.{is_empty_value};
-ghost use Rattle.rbbi_resolve.specs.inner.Contexts.{IsContext, KnowsQuotes, IsKindOf, bounds_of};
-ghost use Rattle.rbbi_resolve.specs.inner.Contexts.{context_of, files_of, stand_of};
+ghost use Rattle.rbbi_resolve.specs.inner.Contexts.{IsContext, KnowsQuotes, IsKindOf, context_of};
+ghost use Rattle.rbbi_resolve.specs.inner.Contexts.{files_of, stand_of};
 ghost use Rattle.rbbi_resolve.specs.inner.OwnLeaves.{AddsRows, leaves_of_expr, leaves_of_seq};
 ghost use Rattle.rbbi_resolve.specs.inner.OwnLeaves.{leaves_of_item, leaves_of_atom};
 ghost use Rattle.rbbi_resolve.specs.inner.Summaries.{Summarizes};
@@ -31,7 +30,7 @@ ghost use Rattle.rbbi_resolve.specs.inner.Summaries.{Summarizes};
 use crate::context::Context;
 use crate::fault::{Fault, FaultKind, note, note_where};
 use crate::leaves::Leaves;
-use crate::set_value::{value_of_property, value_of_set};
+use crate::set_value::{find_set, value_of_property};
 use crate::variables::{Kind, Summary};
 use rbbi_classes::{ClassSet, Division};
 use rbbi_text::Word;
@@ -54,9 +53,8 @@ pub(crate) fn check_expr(
     requires quotes { KnowsQuotes context.now }
     requires covered { AreCovered (files_of context.now) (stand_of context.now)
         (parts_of_expr (expr_tree expr.now)) }
-    ensures noted { OnOk result (least.new ≡ noted_parts
-        (context_of context.now) least.old
-        (parts_of_expr (expr_tree expr.now))) }
+    ensures noted { OnOk result (least.new
+        ≡ noted_parts (context_of context.now) least.old (parts_of_expr (expr_tree expr.now))) }
     ensures counts { IfOk result (λ summary. Summarizes summary
         (meaning_of_expr (context_of context.now) (expr_tree expr.now))
         (height_of_expr (context_of context.now) (expr_tree expr.now))) }
@@ -85,9 +83,8 @@ fn check_seq(
     requires quotes { KnowsQuotes context.now }
     requires covered { AreCovered (files_of context.now) (stand_of context.now)
         (parts_of_seq (seq_tree seq.now)) }
-    ensures noted { OnOk result (least.new ≡ noted_parts
-        (context_of context.now) least.old
-        (parts_of_seq (seq_tree seq.now))) }
+    ensures noted { OnOk result (least.new
+        ≡ noted_parts (context_of context.now) least.old (parts_of_seq (seq_tree seq.now))) }
     ensures counts { IfOk result (λ summary. Summarizes summary
         (meaning_of_seq (context_of context.now) (seq_tree seq.now))
         (height_of_seq (context_of context.now) (seq_tree seq.now))) }
@@ -116,9 +113,8 @@ fn check_item(
     requires quotes { KnowsQuotes context.now }
     requires covered { AreCovered (files_of context.now) (stand_of context.now)
         (parts_of_item (item_tree item.now)) }
-    ensures noted { OnOk result (least.new ≡ noted_parts
-        (context_of context.now) least.old
-        (parts_of_item (item_tree item.now))) }
+    ensures noted { OnOk result (least.new
+        ≡ noted_parts (context_of context.now) least.old (parts_of_item (item_tree item.now))) }
     ensures counts { IfOk result (λ summary. Summarizes summary
         (meaning_of_item (context_of context.now) (item_tree item.now))
         (height_of_item (context_of context.now) (item_tree item.now))) }
@@ -144,9 +140,8 @@ fn check_atom(
     requires quotes { KnowsQuotes context.now }
     requires covered { AreCovered (files_of context.now) (stand_of context.now)
         (parts_of_item (placed place (atom_tree atom.now) Once)) }
-    ensures noted { OnOk result ((quant : Quant) →
-        least.new ≡ noted_parts (context_of context.now) least.old
-        (parts_of_item (placed place (atom_tree atom.now) quant))) }
+    ensures noted { OnOk result ((quant : Quant) → least.new ≡ noted_parts (context_of context.now)
+        least.old (parts_of_item (placed place (atom_tree atom.now) quant))) }
     ensures counts { IfOk result (λ summary. Summarizes summary
         (meaning_of_atom (context_of context.now) (atom_tree atom.now))
         (height_of_atom (context_of context.now) (atom_tree atom.now))) }
@@ -210,9 +205,8 @@ fn check_name(context: &Context, least: &mut Option<Fault>, place: u32, name: &W
 /// The counts of a variable, used as an atom.
 fn summary_of(kind: &Kind) -> Summary
     ensures { (files : List File) (bounds : List ℕ) (variable : contexts.Variable)
-        → IsKindOf files bounds kind.now variable
-        → Summarizes result (meaning_of_variable (Some variable))
-        (height_of_variable (Some variable)) }
+        → IsKindOf files bounds kind.now variable → Summarizes
+        result (meaning_of_variable (Some variable)) (height_of_variable (Some variable)) }
 {
     match kind {
         Kind::Set(_) => Summary::flat(1, false),
@@ -233,8 +227,7 @@ fn check_property(
     value: &Option<Word>,
 ) -> Result<(), AllocError>
     requires context { IsContext context.now }
-    requires covered { IfSome
-        (value_of_property (files_of context.now) negated name.now value.now)
+    requires covered { IfSome (value_of_property (files_of context.now) negated name.now value.now)
         (Respects (files_of context.now) (stand_of context.now)) }
     ensures noted { OnOk result (least.new ≡ noted_parts (context_of context.now) least.old
         (Outside place (property_atom negated name.now value.now) ∷ [])) }
@@ -269,7 +262,8 @@ fn check_set(
         (value_of_name (context_of context.now)) (set_tree set.now) ∷ [])
         leaves.old.rows.items leaves.new.rows.items) }
 {
-    let value = value_of_set(alloc, context, least, set)?;
+    let mut value = None;
+    find_set(alloc, context, least, set, &mut value)?;
     let is_empty = is_empty_set(context.classes.division.as_ref(), &value);
     note_where(least, is_empty, place, FaultKind::EmptySet);
     leaves.add(alloc, &value)?;
@@ -279,9 +273,8 @@ fn check_set(
 /// Whether a set of classes has a value without characters.
 fn is_empty_set(division: &Division, value: &Option<ClassSet>) -> bool
     ensures { (files : List File) (tree : Option model.SetTree)
-        → IsClassValue files division.now.bounds tree value.now
-        → IfSome tree (Respects files (stand_in division.now))
-        → result ≡ is_empty_value files tree }
+        → IsClassValue files division.now.bounds tree value.now →
+        IfSome tree (Respects files (stand_in division.now)) → result ≡ is_empty_value files tree }
 {
     match value {
         Some(set) => !set.holds_character(division.layout()),

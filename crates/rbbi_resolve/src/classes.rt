@@ -50,9 +50,8 @@ impl Classes {
         statements: &Statements,
     ) -> Result<Classes, AllocError>
         ensures classes { IfOk result (AreRightClasses table.now) }
-        ensures covers { IfOk result (λ classes.
-            CoversAll table.now (stand_in (rc_value classes.division))
-            (statement_trees statements.now)) }
+        ensures covers { IfOk result (λ classes. CoversAll
+            table.now (stand_in (rc_value classes.division)) (statement_trees statements.now)) }
     {
         let mut collection = Collection::new(alloc)?;
         for number in 0..statements.len() {
@@ -95,9 +94,8 @@ fn by_classes(
     layout: &Layout,
     answers: &IndexMap<String, Answer>,
 ) -> Result<IndexMap<String, PropertyClasses>, AllocError>
-    ensures { IfOk result (λ sets. (files : List File) → All (IsRightAnswer files) (values
-        answers.now)
-        → All (IsKnown files layout.now) (values sets)) }
+    ensures { IfOk result (λ sets. (files : List File) → All
+        (IsRightAnswer files) (values answers.now) → All (IsKnown files layout.now) (values sets)) }
 {
     let mut divided = IndexMap::new(alloc);
     let mut known = IndexMap::new(alloc);
@@ -118,10 +116,9 @@ fn add_known(
 ) -> Result<(), AllocError>
     requires divided { All (IsDivided layout.now) (values divided.old) }
     ensures divided { OnOk result (All (IsDivided layout.now) (values divided.new)) }
-    ensures known { OnOk result ((files : List File) → All (IsRightAnswer files) (values
-        answers.now)
-        → All (IsKnown files layout.now) (values known.old)
-        → All (IsKnown files layout.now) (values known.new)) }
+    ensures known { OnOk result ((files : List File)
+        → All (IsRightAnswer files) (values answers.now) → All (IsKnown files layout.now)
+        (values known.old) → All (IsKnown files layout.now) (values known.new)) }
 {
     if let Some((key, answer)) = answers.get_index(number) {
         let set = divide_once(alloc, layout, divided, &answer.set)?;

@@ -1,12 +1,11 @@
 //! The sets of which all sets of a rule file are made.
 ghost use Rattle.std.specs.Prelude.{◌≡◌, IfSome, OnOk};
-ghost use Rattle.rbbi_tree.specs.Values.{statement_tree, expr_tree, seq_tree, item_tree};
-ghost use Rattle.rbbi_tree.specs.Values.{set_tree, part_tree};
+ghost use Rattle.rbbi_tree.specs.Values.{statement_tree, expr_tree, seq_tree, item_tree, set_tree};
+ghost use Rattle.rbbi_tree.specs.Values.{part_tree};
 ghost use Rattle.rbbi_sets.specs.Rising.{IsRange};
 ghost use Rattle.rbbi_resolve.specs.Parts.{parts_of_expr, parts_of_seq, parts_of_item};
 ghost use Rattle.rbbi_resolve.specs.inner.Covered.{Collects, CollectsSet, CollectsPart};
-ghost use Rattle.rbbi_resolve.specs.inner.Covered.{IsCollection};
-ghost use Rattle.rbbi_resolve.specs.inner.Covered.{parts_of_statement};
+ghost use Rattle.rbbi_resolve.specs.inner.Covered.{IsCollection, parts_of_statement};
 ghost use Rattle.rbbi_resolve.specs.inner.LiteralRuns.{IsLiteral};
 
 use crate::collection::Collection;
@@ -113,8 +112,7 @@ fn collect_set(
     set: &SetExpr,
 ) -> Result<(), AllocError>
     requires { IsCollection table.now collection.old }
-    ensures { OnOk result (CollectsSet table.now collection.old collection.new
-        (set_tree set.now)) }
+    ensures { OnOk result (CollectsSet table.now collection.old collection.new (set_tree set.now)) }
 {
     let mut run = Vec::new(alloc);
     for part in &set.parts.items {

@@ -1,6 +1,5 @@
 //! What a walk over the statements of a rule file collects.
-ghost use Rattle.std.specs.Prelude.{◌≡◌, ◌≤◌, ◌∷◌, [], List, IsTrue, IfOk, IfSome};
-ghost use Rattle.std.specs.Prelude.{OnOk};
+ghost use Rattle.std.specs.Prelude.{◌≡◌, ◌≤◌, ◌∷◌, [], List, IsTrue, IfOk, IfSome, OnOk};
 ghost use Rattle.std.specs.HashMap.{values};
 ghost use Rattle.std.specs.List.{All, AllByRecursion, Contains};
 ghost use Rattle.rbbi_model.specs.Ranges.{Range};
@@ -171,9 +170,8 @@ fn knows(
     name: &Word,
     value: &Option<Word>,
 ) -> bool
-    ensures { IsTrue result → (files : List File) (bases : List (List Range))
-        → All (IsBasedAnswer files bases) (values answers.now)
-        → HasBase files bases negated name.now value.now }
+    ensures { IsTrue result → (files : List File) (bases : List (List Range)) → All (IsBasedAnswer
+        files bases) (values answers.now) → HasBase files bases negated name.now value.now }
 {
     match answers.get(key) {
         Some(answer) => answer.question.is_for(negated, name, value),

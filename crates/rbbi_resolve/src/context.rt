@@ -39,14 +39,8 @@ impl<'a> Context<'a> {
             (get_by_text self.now.variables.now (encode_utf8_all name.now)) }
     {
         match self.variables.get(name.as_str()) {
-            Some(variable) => {
-                if variable.statement < self.limit {
-                    Some(variable)
-                } else {
-                    None
-                }
-            }
-            None => None,
+            Some(variable) if variable.statement < self.limit => Some(variable),
+            _ => None,
         }
     }
 }

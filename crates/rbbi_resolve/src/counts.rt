@@ -1,6 +1,6 @@
 //! The counts of the active rules and the first rule that exceeds each limit.
 ghost use Rattle.std.specs.Prelude.{◌≡◌, ◌≤◌, ◌<◌, ℕ, List, [], ◌∷◌, is_some, if◌then◌else◌};
-ghost use Rattle.rbbi_resolve.specs.Counts.{size_fault, leaves_meant};
+ghost use Rattle.rbbi_resolve.specs.Counts.{placed_fault, size_fault, leaves_meant};
 ghost use Rattle.rbbi_resolve.specs.Files.{RuleMeaning};
 ghost use Rattle.rbbi_resolve.specs.inner.Summaries.{IsCapped};
 ghost use Rattle.rbbi_resolve.specs.inner.Countings.{IsPartialCount, AreCounting};
@@ -35,6 +35,14 @@ impl Count {
             sum: 0,
             passed: None,
         }
+    }
+
+    /// The fault of this kind at the rule with which the limit was exceeded, if one was.
+    fn fault(self, kind: FaultKind) -> Option<Fault>
+        ensures { result ≡ placed_fault kind self.passed }
+    {
+        let place = self.passed?;
+        Some(Fault { place, kind })
     }
 
     /// Adds the amount of the rule at a place.
@@ -108,35 +116,15 @@ impl Counts {
             result ≡ size_fault end all }
     {
         if let Some(place) = self.rules.passed {
-            return Some(Fault {
-                place,
-                kind: FaultKind::TooManyRules,
-            });
+            let kind = FaultKind::TooManyRules;
+            return Some(Fault { place, kind });
         }
         if self.rules.sum == 0 {
-            return Some(Fault {
-                place: end,
-                kind: FaultKind::NoRules,
-            });
+            let kind = FaultKind::NoRules;
+            return Some(Fault { place: end, kind });
         }
-        if let Some(place) = self.leaves.passed {
-            return Some(Fault {
-                place,
-                kind: FaultKind::TooManyLeaves,
-            });
-        }
-        if let Some(place) = self.slashes.passed {
-            return Some(Fault {
-                place,
-                kind: FaultKind::TooManySlashes,
-            });
-        }
-        match self.tall.passed {
-            Some(place) => Some(Fault {
-                place,
-                kind: FaultKind::TooTall,
-            }),
-            None => None,
-        }
+        let slashes = self.slashes.fault(FaultKind::TooManySlashes);
+        let later = slashes.or(self.tall.fault(FaultKind::TooTall));
+        self.leaves.fault(FaultKind::TooManyLeaves).or(later)
     }
 }

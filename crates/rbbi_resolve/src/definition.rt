@@ -22,7 +22,6 @@ use crate::check::check_expr;
 use crate::context::Context;
 use crate::fault::Fault;
 use crate::leaves::Leaves;
-use crate::set_value::copy_of;
 use crate::variables::{Kind, Summary};
 use rbbi_tree::{Atom, Expr, Item, Quant};
 use std::alloc::{AllocError, Global};
@@ -75,10 +74,10 @@ fn kind_of_atom(
         height)) }
 {
     match atom {
-        Atom::Prop { .. } | Atom::Set(_) => Ok(Kind::Set(copy_of(&leaves.rows[first])?)),
+        Atom::Prop { .. } | Atom::Set(_) => Ok(Kind::Set(leaves.rows[first].clone()?)),
         Atom::Name(name) => match context.variable(name) {
             Some(variable) => match &variable.kind {
-                Kind::Set(value) => Ok(Kind::Set(copy_of(value)?)),
+                Kind::Set(value) => Ok(Kind::Set(value.clone()?)),
                 Kind::Expression(_) => Ok(Kind::Expression(summary)),
             },
             None => Ok(Kind::Expression(summary)),
@@ -91,9 +90,8 @@ fn kind_of_atom(
 
 /// The one item of an expression that is a single atom with no quantifier.
 fn lone_item(expr: &Expr) -> Option<&Item>
-    ensures lone { IfSome result (λ item. expr_tree expr.now
-        ≡ alternative (item_of (placed item.now.place (atom_tree item.now.atom) Once) no_items)
-        no_alternatives) }
+    ensures lone { IfSome result (λ item. expr_tree expr.now ≡ alternative
+        (item_of (placed item.now.place (atom_tree item.now.atom) Once) no_items) no_alternatives) }
     ensures none { IfNone result ((context : contexts.Context) →
         set_of_expr context (expr_tree expr.now) ≡ None) }
 {

@@ -51,12 +51,8 @@ pub(crate) fn note(least: &mut Option<Fault>, place: u32, kind: FaultKind)
 {
     let fault = Fault { place, kind };
     match *least {
-        Some(other) => {
-            if comes_before(fault, other) {
-                *least = Some(fault);
-            }
-        }
-        None => *least = Some(fault),
+        Some(other) if !comes_before(fault, other) => {}
+        _ => *least = Some(fault),
     }
 }
 

@@ -1,6 +1,6 @@
 //! The faults of a rule file, and the counts of its active rules.
 ghost use Rattle.std.specs.Prelude.{◌≡◌, ◌+◌, ◌<◌, ◌&&◌, not, Some, OnOk, length, slice_get};
-ghost use Rattle.std.specs.Prelude.{encode_utf8_all, bytes_eq, codes};
+ghost use Rattle.std.specs.Prelude.{ℕ, Bool, Option, encode_utf8_all, bytes_eq, codes};
 ghost use Rattle.rbbi_tree.specs.Trees as trees;
 ghost use Rattle.rbbi_tree.specs.Values.{statement_trees, expr_tree, rest_tree};
 ghost use Rattle.rbbi_resolve.specs.inner.Readings.{IsReading, HasLeaves, HasBegun, ReadsOn};
@@ -60,21 +60,11 @@ impl<'a> Reading<'a> {
             }
             Statement::Rule {
                 place,
-                no_chain_in,
                 front,
                 slash,
                 rest,
-                tag,
-            } => self.read_rule(
-                alloc,
-                number,
-                *place,
-                *no_chain_in,
-                front,
-                *slash,
-                rest,
-                *tag,
-            ),
+                ..
+            } => self.read_rule(alloc, number, *place, front, *slash, rest),
         }
     }
 
@@ -135,13 +125,8 @@ impl<'a> Reading<'a> {
             return Ok(());
         }
         let key = String::from_str(alloc, name.as_str())?;
-        self.variables.insert(
-            key,
-            Variable {
-                statement: number,
-                kind,
-            },
-        )?;
+        let statement = number;
+        self.variables.insert(key, Variable { statement, kind })?;
         Ok(())
     }
 
@@ -151,15 +136,13 @@ impl<'a> Reading<'a> {
         alloc: Global,
         number: usize,
         place: u32,
-        no_chain_in: bool,
         front: &Expr,
         slash: Option<u32>,
         rest: &Option<Expr>,
-        tag: Option<u32>,
     ) -> Result<(), AllocError>
-        requires at { slice_get (statement_trees self.old.statements.now) number
-            ≡ Some (trees.rule place no_chain_in
-            (expr_tree front.now) slash (rest_tree rest.now) tag) }
+        requires at { (no_chain_in : Bool) × (tag : Option ℕ) × (slice_get
+            (statement_trees self.old.statements.now) number ≡ Some (trees.rule place no_chain_in
+            (expr_tree front.now) slash (rest_tree rest.now) tag)) }
         requires reading { IsReading self.old number }
         requires leaves { HasBegun self.old number }
         ensures { OnOk result (ReadsOn self.old self.new (number + 1)) }

@@ -34,31 +34,24 @@ pub(crate) fn check_rule(
         (parts_of_expr (expr_tree front.now)) }
     requires rest { AreCovered (files_of context.now) (stand_of context.now)
         (parts_of_rest (rest_tree rest.now)) }
-    ensures noted { OnOk result (least.new ≡ noted least.old (
-        faults_of_parts (context_of context.now) (parts_of_expr (expr_tree
-        front.now))
-        ++ (faults_of_rest (context_of context.now) (rest_tree rest.now)
-        ++ faults_at_slash (context_of context.now) (expr_tree front.now) slash
-        (rest_tree rest.now)))) }
+    ensures noted { OnOk result (least.new ≡ noted
+        least.old (faults_of_parts (context_of context.now) (parts_of_expr (expr_tree front.now))
+        ++ (faults_of_rest (context_of context.now) (rest_tree rest.now) ++ faults_at_slash
+        (context_of context.now) (expr_tree front.now) slash (rest_tree rest.now)))) }
     ensures counts { IfOk result (AreSumsOf (context_of context.now)
         (expr_tree front.now) (rest_tree rest.now)) }
     ensures rows { OnOk result (AddsRows context.now (leaves_of_expr (context_of context.now)
         (expr_tree front.now) ++ leaves_of_rest (context_of context.now) (rest_tree rest.now))
         leaves.old.rows.items leaves.new.rows.items) }
 {
-    let front_sums = check_expr(alloc, context, least, leaves, front)?;
+    let front_sum = check_expr(alloc, context, least, leaves, front)?;
     match rest {
         Some(rest) => {
-            let rest_sums = check_expr(alloc, context, least, leaves, rest)?;
-            note_empty(
-                least,
-                slash,
-                front_sums.spells_empty,
-                rest_sums.spells_empty,
-            );
-            Ok(front_sums.then(rest_sums))
+            let rest_sum = check_expr(alloc, context, least, leaves, rest)?;
+            note_empty(least, slash, front_sum.spells_empty, rest_sum.spells_empty);
+            Ok(front_sum.then(rest_sum))
         }
-        None => Ok(front_sums),
+        None => Ok(front_sum),
     }
 }
 

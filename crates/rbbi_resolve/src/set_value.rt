@@ -27,33 +27,12 @@ use rbbi_text::Word;
 use rbbi_tree::{Join, SetExpr, SetItem};
 use std::alloc::{AllocError, Global};
 
-/// The value of a set; None if a part of it has none. Notes the faults of its parts.
-pub(crate) fn value_of_set(
-    alloc: Global,
-    context: &Context,
-    least: &mut Option<Fault>,
-    set: &SetExpr,
-) -> Result<Option<ClassSet>, AllocError>
-    requires { IsContext context.now }
-    ensures value { IfOk result (λ value. IsClassValue (files_of context.now)
-        (bounds_of context.now)
-        (value_of_set (files_of context.now) (value_of_name (context_of context.now))
-        (set_tree set.now)) value) }
-    ensures noted { OnOk result (least.new ≡ noted_parts
-        (context_of context.now) least.old
-        (parts_of_set (set_tree set.now))) }
-{
-    let mut value = None;
-    find_set(alloc, context, least, set, &mut value)?;
-    Ok(value)
-}
-
-/// Finds the value of a set.
+/// Finds the value of a set, if each part of it has one. Notes the faults of its parts.
 ///
 /// Values are passed by reference, and what finds the value of a part isn't inlined, so
 /// that the frames of this walk stay small: it goes as deep as brackets are open.
 #[cycle(sets)]
-fn find_set(
+pub(crate) fn find_set(
     alloc: Global,
     context: &Context,
     least: &mut Option<Fault>,
@@ -172,7 +151,7 @@ fn find_variable(
     match context.variable(name) {
         Some(variable) => match &variable.kind {
             Kind::Set(set) => {
-                *value = copy_of(set)?;
+                *value = set.clone()?;
                 Ok(())
             }
             Kind::Expression(_) => {
@@ -213,16 +192,6 @@ fn find_property(
     Ok(())
 }
 
-/// The set that a variable keeps, if there is one, with the same chunks.
-pub(crate) fn copy_of(set: &Option<ClassSet>) -> Result<Option<ClassSet>, AllocError>
-    ensures { IfOk result (λ copy. copy ≡ set.now) }
-{
-    match set {
-        Some(set) => Ok(Some(set.clone()?)),
-        None => Ok(None),
-    }
-}
-
 /// The set of a property by classes; None if it is unknown.
 pub(crate) fn value_of_property(
     alloc: Global,
@@ -261,28 +230,12 @@ fn join(
     let (Some(whole), Some(part)) = (left.take(), item.take()) else {
         return Ok(());
     };
-    *left = Some(join_sets(alloc, whole, join, part)?);
-    Ok(())
-}
-
-/// `left join item`.
-fn join_sets(
-    alloc: Global,
-    left: ClassSet,
-    join: Join,
-    item: ClassSet,
-) -> Result<ClassSet, AllocError>
-    ensures { IfOk result (λ whole. (files : List File) (bounds : List ℕ)
-        (left_tree item_tree : Option model.SetTree)
-        → IsClassValue files bounds left_tree (Some left)
-        → IsClassValue files bounds item_tree (Some item)
-        → IsClassValue files bounds (joined_to join item_tree left_tree) (Some whole)) }
-{
     match join {
-        Join::Add => Ok(left.union(alloc, item)?),
-        Join::Both => Ok(left.meet(alloc, &item)?),
-        Join::Minus => Ok(left.remove(alloc, &item)?),
+        Join::Add => *left = Some(whole.union(alloc, part)?),
+        Join::Both => *left = Some(whole.meet(alloc, &part)?),
+        Join::Minus => *left = Some(whole.remove(alloc, &part)?),
     }
+    Ok(())
 }
 
 /// Makes a set its complement if `negated`.

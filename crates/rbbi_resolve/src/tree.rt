@@ -19,24 +19,6 @@ pub(crate) fn leaf_of_set(number: u32) -> Tree
     Tree::Leaf(number)
 }
 
-/// Parts that follow one another.
-fn sequence(items: Vec<Tree>) -> Tree
-    ensures tree { (sets : List (List Range)) → tree_of sets result
-        ≡ spelling.sequence_of (map (tree_of sets) items.items) }
-    ensures numbers { numbers_of result ≡ flat_map numbers_of items.items }
-{
-    Tree::Seq(Trees { items })
-}
-
-/// One of the parts; no tree if there is none.
-fn choice(items: Vec<Tree>) -> Tree
-    ensures tree { (sets : List (List Range)) → tree_of sets result
-        ≡ spelling.choice_of (map (tree_of sets) items.items) }
-    ensures numbers { numbers_of result ≡ flat_map numbers_of items.items }
-{
-    Tree::Alt(Trees { items })
-}
-
 /// Makes the trees after the first ones one tree: they follow one another. One stays as it is.
 #[inline(never)]
 pub(crate) fn in_sequence(trees: &mut Vec<Tree>, first: usize) -> Result<(), AllocError>
@@ -47,11 +29,12 @@ pub(crate) fn in_sequence(trees: &mut Vec<Tree>, first: usize) -> Result<(), All
         return Ok(());
     }
     let items = trees.split_off(first)?;
-    trees.push(sequence(items))?;
+    trees.push(Tree::Seq(Trees { items }))?;
     Ok(())
 }
 
-/// Makes the trees after the first ones one tree: one of them. One stays as it is.
+/// Makes the trees after the first ones one tree: one of them, and no tree if there are none. One
+/// stays as it is.
 #[inline(never)]
 pub(crate) fn in_choice(trees: &mut Vec<Tree>, first: usize) -> Result<(), AllocError>
     requires { first ≤ vec_len trees.old }
@@ -61,7 +44,7 @@ pub(crate) fn in_choice(trees: &mut Vec<Tree>, first: usize) -> Result<(), Alloc
         return Ok(());
     }
     let items = trees.split_off(first)?;
-    trees.push(choice(items))?;
+    trees.push(Tree::Alt(Trees { items }))?;
     Ok(())
 }
 
@@ -73,10 +56,9 @@ pub(crate) fn repeat_last(
     trees: &mut Vec<Tree>,
 ) -> Result<(), AllocError>
     requires { 0 < vec_len trees.old }
-    ensures { OnOk result ((before : List Tree) (part : Tree)
-        → trees.old.items ≡ before ++ part ∷ []
-        → IsJoined (λ parts. repeated quant (spelling.sequence_of parts)) before (part ∷ [])
-        trees.new.items) }
+    ensures { OnOk result
+        ((before : List Tree) (part : Tree) → trees.old.items ≡ before ++ part ∷ [] → IsJoined
+        (λ parts. repeated quant (spelling.sequence_of parts)) before (part ∷ []) trees.new.items) }
 {
     match quant {
         Quant::Once => Ok(()),

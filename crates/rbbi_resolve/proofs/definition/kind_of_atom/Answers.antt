@@ -1,4 +1,4 @@
-use Rattle.std.proofs.Common.{sym, subst}
+use Rattle.std.proofs.Common.{sym, subst, rules}
 use Rattle.rbbi_resolve.specs.Expressions.{variable_with}
 use Rattle.rbbi_resolve.specs.declared.variables.Kind.TheVariants as kind
 use Rattle.rbbi_resolve.specs.inner.ClassValues.{IsClassValue}
@@ -7,13 +7,13 @@ use Rattle.rbbi_resolve.specs.inner.OwnLeaves.{AddsRows}
 use Rattle.rbbi_resolve.proofs.LeafAtoms.{set_atom, own_row}
 use Rattle.rbbi_resolve.proofs.definition.kind_of_atom.Goals as goal
 
-pub returns-in_ok-copy_of-in-Prop : goal.returns-in_ok-copy_of-in-Prop
-returns-in_ok-copy_of-in-Prop c = λ meaning height sums.
+pub returns-in_ok-clone-in-Prop : goal.returns-in_ok-clone-in-Prop
+returns-in_ok-clone-in-Prop c = λ meaning height sums.
     let context = c.args.context.now in
     let rows = c.args.leaves.now.rows.items in
     let s = set_atom (context_of context) c.args.atom.now c.in-Prop.is in
     let before = c.requires.rows in
     let own = own_row context s.0 before.0 rows c.args.first c.index.result.now before.1
     (subst (λ values. AddsRows context values before.0 rows) s.1 before.2) c.index.ensures in
-    subst (λ o. IsKindOf (files_of context) (bounds_of context) (kind.Set c.in_ok-copy_of-in-Prop.field-0) (variable_with o meaning height)) (sym s.2)
-    (subst (IsClassValue (files_of context) (bounds_of context) s.0) (sym c.in_ok-copy_of-in-Prop.ensures) own)
+    subst (λ o. IsKindOf (files_of context) (bounds_of context) (kind.Set c.in_ok-clone-in-Prop.field-0) (variable_with o meaning height)) (sym s.2)
+    (subst (IsClassValue (files_of context) (bounds_of context) s.0) (sym (search rules)) own)

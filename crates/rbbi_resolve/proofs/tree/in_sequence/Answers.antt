@@ -1,6 +1,9 @@
 use Rattle.std.proofs.Common.{◌++◌, ◌∷◌, [], refl, ap, ◌∙◌, arith}
 use Rattle.rbbi_model.specs.Spelling as spelling
+use Rattle.rbbi_resolve.specs.declared.rules.Tree as tree
+use Rattle.rbbi_resolve.specs.declared.rules.Tree.TheViews.{roll-Trees}
 use Rattle.rbbi_resolve.proofs.Joining.{joined_alone, joined_behind}
+use Rattle.rbbi_resolve.proofs.TreeValues.{tree_of_sequence, numbers_of_sequence}
 use Rattle.rbbi_resolve.proofs.tree.in_sequence.Goals as goal
 
 pub returns-then-len-first-eq1 : goal.returns-then-len-first-eq1
@@ -10,6 +13,7 @@ returns-then-len-first-eq1 c = λ before parts long is.
 
 pub returns : goal.returns
 returns c =
-    joined_behind spelling.sequence_of c.args.first c.args.trees.now.items c.in_ok-items.items.items _ c.sequence.result
-    (c.in_ok-push.ensures.items ∙ ap (λ ts. ts ++ c.sequence.result ∷ []) c.in_ok-items.ensures.items) c.in_ok-items.ensures.tail c.sequence.ensures.tree
-    c.sequence.ensures.numbers
+    let parts = roll-Trees (record { items = c.in_ok-items.items }) in
+    joined_behind spelling.sequence_of c.args.first c.args.trees.now.items c.in_ok-items.items.items _ (tree.Seq parts)
+    (c.in_ok-push.ensures.items ∙ ap (λ ts. ts ++ tree.Seq parts ∷ []) c.in_ok-items.ensures.items) c.in_ok-items.ensures.tail
+    (λ sets. tree_of_sequence sets parts) (numbers_of_sequence parts)

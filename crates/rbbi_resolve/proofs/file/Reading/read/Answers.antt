@@ -48,3 +48,7 @@ read_assignment-requires-clause-leaves c =
 pub read_rule-requires-clause-leaves : goal.read_rule-requires-clause-leaves
 read_rule-requires-clause-leaves c =
     record { firsts = c.args.self.now.firsts.items; is = begun (goal.at.read_rule-requires-clause-leaves c).In_ok-push; before = c.requires.leaves }
+
+pub read_rule-requires-clause-at : goal.read_rule-requires-clause-at
+read_rule-requires-clause-at c =
+    (c.in-Rule.no_chain_in, c.in-Rule.tag, tree_at c.args.self.now.statements.now c.args.number _ (c.get.ensures ∙ ap Some c.in-Rule.is))

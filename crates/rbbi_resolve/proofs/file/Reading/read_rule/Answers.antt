@@ -23,7 +23,7 @@ read_to : (c : In_ok-whole) (counts : declared.Counts) →
     ((left all : List RuleMeaning) →
     AreCounting c.args.self.now.counts
     (rule_in (context_at c.args.self.now.table.now (statement_trees c.args.self.now.statements.now) c.args.number)
-    (rule c.args.place c.args.no_chain_in (expr_tree c.args.front.now) c.args.slash (rest_tree c.args.rest.now) c.args.tag) ++ left) all →
+    (rule c.args.place c.requires.at.0 (expr_tree c.args.front.now) c.args.slash (rest_tree c.args.rest.now) c.requires.at.1) ++ left) all →
     AreCounting counts left all) →
     IsReadTo c.args.self.now.table.now c.args.self.now.classes c.args.self.now.dictionary_ignored
     (statement_trees c.args.self.now.statements.now) c.args.self.now.variables
@@ -33,10 +33,10 @@ read_to c counts go_on =
     let files = r.table.now in
     let trees = statement_trees r.statements.now in
     let n = c.args.number in
-    let s = rule c.args.place c.args.no_chain_in (expr_tree c.args.front.now) c.args.slash (rest_tree c.args.rest.now) c.args.tag in
-    let next = ap (λ x. x.variables) (context_next files trees n s c.requires.at) in
+    let s = rule c.args.place c.requires.at.0 (expr_tree c.args.front.now) c.args.slash (rest_tree c.args.rest.now) c.requires.at.1 in
+    let next = ap (λ x. x.variables) (context_next files trees n s c.requires.at.2) in
     step files r.classes r.dictionary_ignored trees n s r.variables r.variables r.least c.check_rule.new.least r.switches r.switches r.counts counts
-    c.requires.reading c.requires.at (stay_variables files (rc_value r.classes.division).bounds trees r.variables n next c.requires.reading.defined)
+    c.requires.reading c.requires.at.2 (stay_variables files (rc_value r.classes.division).bounds trees r.variables n next c.requires.reading.defined)
     c.in_ok-whole.ensures.noted
     c.requires.reading.switched go_on
 
@@ -48,13 +48,13 @@ added c =
     let r = c.args.self.now in
     let begun = c.requires.leaves in
     leaves_next r.table.now (rc_value r.classes.division) (statement_trees r.statements.now) begun.firsts r.firsts.items r.leaves.rows.items
-    c.check_rule.new.leaves.rows.items c.args.number _ c.requires.at begun.is begun.before c.in_ok-whole.ensures.rows
+    c.check_rule.new.leaves.rows.items c.args.number _ c.requires.at.2 begun.is begun.before c.in_ok-whole.ensures.rows
 
 pub returns-then-self : goal.returns-then-self
 returns-then-self c =
     let r = c.args.self.now in
     let k = context_at r.table.now (statement_trees r.statements.now) c.args.number in
-    let means = meant k c.args.place c.args.no_chain_in (expr_tree c.args.front.now) (rest_tree c.args.rest.now) c.args.tag in
+    let means = meant k c.args.place c.requires.at.0 (expr_tree c.args.front.now) (rest_tree c.args.rest.now) c.requires.at.1 in
     let active : k.active ≡ true = sym c.requires.reading.switched.active ∙ c.if-self.true in
     record {
       reading = read_to (goal.at.returns-then-self c).In_ok-whole c.add.new.self (λ left all so_far.
@@ -71,7 +71,7 @@ pub returns-else-self : goal.returns-else-self
 returns-else-self c =
     let r = c.args.self.now in
     let k = context_at r.table.now (statement_trees r.statements.now) c.args.number in
-    let means = meant k c.args.place c.args.no_chain_in (expr_tree c.args.front.now) (rest_tree c.args.rest.now) c.args.tag in
+    let means = meant k c.args.place c.requires.at.0 (expr_tree c.args.front.now) (rest_tree c.args.rest.now) c.requires.at.1 in
     let inactive : k.active ≡ false = sym c.requires.reading.switched.active ∙ c.if-self.false in
     record {
       reading = read_to (goal.at.returns-else-self c).In_ok-whole r.counts
@@ -86,13 +86,13 @@ pub check_rule-requires-clause-front : goal.check_rule-requires-clause-front
 check_rule-requires-clause-front c =
     let r = c.args.self.now in
     covered_left r.table.now (stand_in (rc_value r.classes.division)) (parts_of_expr (expr_tree c.args.front.now)) (parts_of_rest (rest_tree c.args.rest.now))
-    (c.requires.reading.covered.each c.args.number _ c.requires.at)
+    (c.requires.reading.covered.each c.args.number _ c.requires.at.2)
 
 pub check_rule-requires-clause-rest : goal.check_rule-requires-clause-rest
 check_rule-requires-clause-rest c =
     let r = c.args.self.now in
     covered_right r.table.now (stand_in (rc_value r.classes.division)) (parts_of_expr (expr_tree c.args.front.now)) (parts_of_rest (rest_tree c.args.rest.now))
-    (c.requires.reading.covered.each c.args.number _ c.requires.at)
+    (c.requires.reading.covered.each c.args.number _ c.requires.at.2)
 
 pub check_rule-requires-clause-context : goal.check_rule-requires-clause-context
 check_rule-requires-clause-context c =
