@@ -27,8 +27,7 @@ pub(crate) fn categories_of(
     rows: &[ClassSet],
 ) -> Result<(Vec<usize>, usize), CatsErr>
     ensures numbered { IfOk result (λ found. AreNumbered found.0.items found.1) }
-    ensures many { IfOk result (λ found.
-        length found.0.items ≡ length division.now.bounds + 1) }
+    ensures many { IfOk result (λ found. length found.0.items ≡ length division.now.bounds + 1) }
     ensures told { IfOk result (λ found. AreCategories division.now.steps
         (map (characters_of division.now) rows.now) found.0.items) }
     ensures few { IfOk result (λ found. found.1 ≤ MOST_CATEGORIES) }
@@ -59,9 +58,8 @@ fn without(
     requires form { IsDivision division.now }
     requires surrogates { (c : ℕ) → IsFirstOfClass division.now.bounds c →
         HasMember division.now.bounds surrogates.now c ↔ ((0xD800 ≤ c) × (c ≤ 0xDFFF)) }
-    ensures { IfOk result (λ characters. (c : ℕ) → c ≤ 0x10FFFF →
-        HasClass characters (number_at division.now.steps c)
-        ↔ Has (characters_of division.now row.now) c) }
+    ensures { IfOk result (λ characters. (c : ℕ) → c ≤ 0x10FFFF → HasClass
+        characters (number_at division.now.steps c) ↔ Has (characters_of division.now row.now) c) }
 {
     let own = row.clone()?;
     let characters = own.remove(alloc, surrogates)?;

@@ -1,5 +1,7 @@
 //! Why the categories of rules are refused.
 ghost use Rattle.std.specs.Prelude.{◌≡◌, None};
+ghost use Rattle.rbbi_cats.specs.declared.error.CatsErr.TheVariants.{Memory};
+ghost use Rattle.rbbi_cats.specs.Refusals.{label_of};
 
 use std::alloc::AllocError;
 use thiserror::Error;
@@ -16,8 +18,6 @@ pub enum CatsErr {
 }
 
 impl From<AllocError> for CatsErr {
-    ghost use Rattle.rbbi_cats.specs.declared.error.CatsErr.TheVariants.{Memory};
-
     ghost from_gives = { λ _ e. e ≡ Memory };
 
     fn from(_e: AllocError) -> CatsErr {
@@ -26,8 +26,6 @@ impl From<AllocError> for CatsErr {
 }
 
 impl CatsErr {
-    ghost use Rattle.rbbi_cats.specs.Refusals.{label_of};
-
     /// The variant's name.
     pub fn label(&self) -> &str
         ensures { result.now ≡ label_of self.now }
