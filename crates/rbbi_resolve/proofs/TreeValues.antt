@@ -32,7 +32,8 @@ tree_of_choice sets parts =
     ap (tree_of sets) (sym (variants.rolls-Alt parts)) ∙ fold-roll-Tree spelling.Tree (List spelling.Tree) (tree_step sets) trees_step (Tree-F.Alt parts)
     ∙ ap choice_of (trees_of_out sets parts)
 
-pub tree_of_sequence : (sets : List (List Range)) (parts : Trees) → tree_of sets (tree.Seq parts) ≡ sequence_of (map (tree_of sets) (out-Trees parts).items.items)
+pub tree_of_sequence : (sets : List (List Range)) (parts : Trees) → tree_of sets (tree.Seq parts)
+    ≡ sequence_of (map (tree_of sets) (out-Trees parts).items.items)
 tree_of_sequence sets parts =
     ap (tree_of sets) (sym (variants.rolls-Seq parts)) ∙ fold-roll-Tree spelling.Tree (List spelling.Tree) (tree_step sets) trees_step (Tree-F.Seq parts)
     ∙ ap sequence_of (trees_of_out sets parts)
