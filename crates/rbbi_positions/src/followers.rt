@@ -29,11 +29,10 @@ pub(crate) fn add_followers(
         first + leaf_count (tree_of sets tree.now) ≤ 64 * length next.now }
     requires rows { (sets : List (List Range)) →
         (first + leaf_count (tree_of sets tree.now)) * length next.now ≤ length followers.old }
-    ensures { OnOk result ((sets : List (List Range)) (position other : ℕ) →
-        other < 64 * length next.now →
-        in_row (length next.now) followers.new position other
-        ≡ (in_row (length next.now) followers.old position other
-        || goes (tree_of sets tree.now) first position other (row_bit next.now other))) }
+    ensures { OnOk result ((sets : List (List Range)) (position other : ℕ)
+        → other < 64 * length next.now → in_row (length next.now) followers.new position other
+        ≡ (in_row (length next.now) followers.old position
+        other || goes (tree_of sets tree.now) first position other (row_bit next.now other))) }
 {
     match tree {
         Tree::Leaf(_) => unite_row(followers, first, next),

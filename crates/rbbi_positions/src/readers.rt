@@ -1,13 +1,10 @@
 //! The positions that read each category.
-ghost use Rattle.std.specs.Prelude.{◌≡◌, ◌+◌, ◌*◌, ◌<◌, ◌≤◌, ℕ, IsTrue, ◌↔◌, IfOk, length};
-ghost use Rattle.std.specs.Prelude.{slice_index, vec_len};
+ghost use Rattle.std.specs.Prelude.{◌≡◌, ◌*◌, ◌<◌, ◌≤◌, IsTrue, ◌↔◌, IfOk, length};
 ghost use Rattle.std.specs.List.{AllByRecursion};
 ghost use Rattle.rbbi_model.specs.Ranges.{Has};
 ghost use Rattle.rbbi_classes.specs.CharacterSets.{characters_of};
 ghost use Rattle.rbbi_classes.specs.Divisions.{IsDivision};
 ghost use Rattle.rbbi_classes.specs.Steps.{number_at};
-ghost use Rattle.rbbi_resolve.specs.RuleTrees.{set_at};
-ghost use Rattle.rbbi_positions.specs.inner.Rows.{in_row};
 ghost use Rattle.rbbi_positions.specs.inner.RuleTests.{AreCodesOf, ReadCode};
 ghost use Rattle.rbbi_positions.specs.inner.Readers.{HasEachCategory, AreReaders};
 

@@ -6,8 +6,7 @@ ghost use Rattle.rbbi_model.specs.Rules.{leaves_of, AreLawful};
 ghost use Rattle.rbbi_resolve.specs.RuleLists.{rule_of, rules_of};
 ghost use Rattle.rbbi_positions.specs.inner.Rows.{in_row};
 ghost use Rattle.rbbi_bits.specs.BitRows.{row_bit};
-ghost use Rattle.rbbi_positions.specs.inner.RuleTests.{some_rule, rule_goes};
-ghost use Rattle.rbbi_positions.specs.inner.RuleTests.{AreOwners};
+ghost use Rattle.rbbi_positions.specs.inner.RuleTests.{some_rule, rule_goes, AreOwners};
 ghost use Rattle.rbbi_positions.specs.inner.PositionKinds.{is_of_kind};
 
 use crate::count::count;
@@ -124,9 +123,8 @@ pub(crate) fn followers_of(
     requires wide { leaves ≤ 64 * words }
     requires few { words ≤ 128 }
     ensures many { IfOk result (λ rows. length rows.items ≡ leaves * words) }
-    ensures rows { IfOk result (λ rows. (position other : ℕ) → other < 64 * words →
-        in_row words rows.items position other
-        ≡ some_rule (rule_goes position other) (rules_of rules.now) 0) }
+    ensures rows { IfOk result (λ rows. (position other : ℕ) → other < 64 * words → in_row words
+        rows.items position other ≡ some_rule (rule_goes position other) (rules_of rules.now) 0) }
 {
     let none = vec![in alloc; 0u64; words]?;
     let mut rows = vec![in alloc; 0u64; leaves * words]?;
