@@ -1,6 +1,6 @@
 -- What is said of the table of an automaton with the marks of the rules is said of the rules.
 use Rattle.std.proofs.Common.{◌≡◌, ◌+◌, ◌*◌, ◌/◌, ℕ, List, length, true, false, Result, Ok, Err, refl, sym, ◌∙◌, subst, arith}
-use Rattle.std.specs.Prelude.{count_by}
+use Rattle.std.specs.Prelude.{count_by, ◌≢◌}
 use Rattle.std.specs.Result.{IsErr, IsErrAnd}
 use Rattle.rbbi_model.specs.Rules.{Rule}
 use Rattle.rbbi_model.specs.Tables.{Table, CategoryRange}
@@ -12,9 +12,6 @@ use Rattle.rbbi_dfa.specs.declared.error.BuildErr.{BuildErr}
 use Rattle.rbbi_dfa.specs.declared.error.BuildErr.TheVariants.{TooManySets, TooManyRows, TooManyStatuses, Memory}
 use Rattle.rbbi_cats.specs.CategoryLists.{CategoryList}
 use Rattle.rbbi_positions.specs.PositionMarks.{PositionMarks, ArePositions}
-use Rattle.rbbi_dfa.specs.declared.determinize.error.DeterminizeErr.{DeterminizeErr}
-use Rattle.rbbi_dfa.specs.declared.determinize.error.DeterminizeErr.TheVariants.{TooManySets as ManyReached, Memory as NoMemory}
-use Rattle.rbbi_dfa.specs.Refusals.{refusal_of}
 use Rattle.rbbi_dfa.specs.inner.MarkedRows.{AreOf, AreReadable}
 use Rattle.rbbi_dfa.specs.inner.Automata.{IsDetermined, with_ranges}
 use Rattle.rbbi_dfa.specs.Builds.{AreCompilable, BuildsTable}
@@ -82,9 +79,12 @@ AreReadable-from_of rules categories slashes ranges marks of = record {
   small = marks_small rules categories ranges marks of.positions of.lawful slashes of.slashes_are;
 }
 
--- a refusal of determinising is one of compiling
-pub BuildsTable-from_refused : (rules : List Rule) (error : DeterminizeErr) (result : Result Table BuildErr) → IsErr result ×
-    IsErrAnd result (λ e. e ≡ refusal_of error) → (error ≡ ManyReached → HasLeafSets rules 16385) → BuildsTable rules result
-BuildsTable-from_refused rules error (Ok table) h many = let wrong : false ≡ true = h.0 in absurd (cc)
-BuildsTable-from_refused rules ManyReached (Err e) h many = subst (λ (r : BuildErr). BuildsTable rules (Err r)) (sym h.1) (many refl)
-BuildsTable-from_refused rules NoMemory (Err e) h many = subst (λ (r : BuildErr). BuildsTable rules (Err r)) (sym h.1) tt
+-- a refusal of determinising is that of too many sets, or memory ran out
+pub BuildsTable-from_refused : (rules : List Rule) (error : BuildErr) (result : Result Table BuildErr) → IsErr result ×
+    IsErrAnd result (λ e. e ≡ error) → (error ≡ TooManySets → HasLeafSets rules 16385) → error ≢ TooManyRows → error ≢ TooManyStatuses →
+    BuildsTable rules result
+BuildsTable-from_refused rules error (Ok table) h many rows lists = let wrong : false ≡ true = h.0 in absurd (cc)
+BuildsTable-from_refused rules TooManySets (Err e) h many rows lists = subst (λ (r : BuildErr). BuildsTable rules (Err r)) (sym h.1) (many refl)
+BuildsTable-from_refused rules TooManyRows (Err e) h many rows lists = absurd (rows refl)
+BuildsTable-from_refused rules TooManyStatuses (Err e) h many rows lists = absurd (lists refl)
+BuildsTable-from_refused rules Memory (Err e) h many rows lists = subst (λ (r : BuildErr). BuildsTable rules (Err r)) (sym h.1) tt

@@ -1,16 +1,16 @@
 //! From the positions of rules to their table.
-ghost use Rattle.std.specs.Prelude.{◌≡◌, List, count_by, is_some, IfOk};
+ghost use Rattle.std.specs.Prelude.{◌≡◌, List, count_by, is_some};
 ghost use Rattle.rbbi_model.specs.Rules.{Rule};
 ghost use Rattle.rbbi_dfa.specs.Builds.{AreCompilable, BuildsTable};
 
 use crate::determinize::automaton_of;
 use crate::error::BuildErr;
 use crate::table::least_table;
-use rbbi_cats::{CatRange, Categories};
+use rbbi_cats::Categories;
 use rbbi_model::marks_are_unique;
 use rbbi_positions::Positions;
 use rbbi_table::{RangeList, Table};
-use std::alloc::{AllocError, Global};
+use std::alloc::Global;
 
 /// The least table with the marks of the rules that positions and categories are those of. Clauses
 /// hold for any such list of lawful rules.
@@ -26,7 +26,7 @@ pub fn build(alloc: Global, positions: &Positions, cats: &Categories) -> Result<
 {
     let slashes = look_aheads(positions);
     let automaton = automaton_of(alloc, positions, cats.count(), slashes as u16)?;
-    let ranges = ranges_of(alloc, cats.ranges())?;
+    let ranges = RangeList::from_vec(cats.ranges().to_vec(alloc)?);
     marks_are_unique();
     least_table(alloc, &automaton, ranges)
 }
@@ -42,11 +42,4 @@ fn look_aheads(positions: &Positions) -> u32
         }
     }
     count
-}
-
-/// The same ranges, as a table's parts hold them.
-fn ranges_of(alloc: Global, ranges: &[CatRange]) -> Result<RangeList, AllocError>
-    ensures { IfOk result (λ made. made ≡ ranges.now) }
-{
-    Ok(RangeList::from_vec(ranges.to_vec(alloc)?))
 }

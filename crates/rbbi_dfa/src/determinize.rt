@@ -1,19 +1,17 @@
 //! From positions to a determinised automaton: each row is the set of the positions by which the
 //! last character of a word can be read (subset construction; Rabin and Scott 1959).
-ghost use Rattle.std.specs.Prelude.{◌≡◌, ◌≤◌, ◌<◌, ℕ, List, [], length, IfOk, OnOk};
+ghost use Rattle.std.specs.Prelude.{◌≡◌, ◌≢◌, ◌≤◌, ◌<◌, ℕ, List, [], length, IfOk, OnOk};
 ghost use Rattle.rbbi_dfa.specs.inner.Determinizing.{AreReachedSets, AreReachedCandidates, Begin};
 ghost use Rattle.rbbi_dfa.specs.inner.Determinizing.{AddsCells, AddsZeros, AreCellsUpTo, AreMarked};
 ghost use Rattle.rbbi_dfa.specs.inner.Determinizing.{HasReachedSets, IsDeterminized};
-ghost use Rattle.rbbi_bits.specs.NumberedRows.{items_of};
+ghost use Rattle.rbbi_bits.specs.NumberedRows.{items_of, listed_row, IsUnlisted, KeepsOrAdds};
 ghost use Rattle.rbbi_model.specs.Rules.{Rule};
 ghost use Rattle.rbbi_model.specs.Tables.{CategoryRange};
 ghost use Rattle.rbbi_model.specs.Marks.{HasSameMarks};
 ghost use Rattle.rbbi_model.specs.LeafSets.{HasLeafSets};
 ghost use Rattle.rbbi_dfa.specs.inner.Automata.{IsDetermined, with_ranges};
 ghost use Rattle.rbbi_dfa.specs.inner.MarkedRows.{AreReadable, AreOf};
-ghost use Rattle.rbbi_bits.specs.NumberedRows.{listed_row, IsUnlisted, KeepsOrAdds};
 
-mod error;
 mod last_words;
 mod marks;
 mod position_rows;
@@ -22,7 +20,7 @@ mod spanned;
 mod step;
 
 use crate::automaton::{Automaton, Head};
-use error::DeterminizeErr;
+use crate::error::BuildErr;
 use last_words::LastWords;
 use position_rows::Rows;
 use rbbi_bits::{NumberedRows, span_of};
@@ -31,17 +29,17 @@ use rows_of::rows_of;
 use std::alloc::{AllocError, Global};
 
 /// The number of the set, which is added if it isn't there yet.
-fn number_of(alloc: Global, sets: &mut NumberedRows, set: &[u64]) -> Result<usize, DeterminizeErr>
-    ensures number { IfOk result (λ i.
-        (i < length sets.new) × (listed_row sets.new i ≡ set.now)) }
+fn number_of(alloc: Global, sets: &mut NumberedRows, set: &[u64]) -> Result<usize, BuildErr>
+    ensures number { IfOk result (λ i. (i < length sets.new) × (listed_row sets.new i ≡ set.now)) }
     ensures few { IfOk result (λ i. i < 16384) }
     ensures sets { KeepsOrAdds sets.old set.now sets.new }
-    ensures refused { result ≡ Err DeterminizeErr.TooManySets →
+    ensures alone { (result ≢ Err BuildErr.TooManyRows) × (result ≢ Err BuildErr.TooManyStatuses) }
+    ensures refused { result ≡ Err BuildErr.TooManySets →
         (length sets.new ≡ 16384) × IsUnlisted sets.new set.now }
 {
     match sets.number_of(alloc, set)? {
         Some(number) => Ok(number),
-        None => Err(DeterminizeErr::TooManySets),
+        None => Err(BuildErr::TooManySets),
     }
 }
 
@@ -53,7 +51,7 @@ fn lead_on(
     sets: &mut NumberedRows,
     next: &mut [u64],
     cells: &mut Vec<u16>,
-) -> Result<(), DeterminizeErr>
+) -> Result<(), BuildErr>
     requires sets { AreReachedSets rows.now sets.old }
     requires candidates { AreReachedCandidates rows.now candidates.now }
     requires wide { length candidates.now ≡ rows.now.width }
@@ -62,7 +60,8 @@ fn lead_on(
     ensures kept { OnOk result (Begin sets.old sets.new) }
     ensures cells { OnOk result (AddsCells rows.now sets.new candidates.now
         cells.old.items cells.new.items rows.now.categories) }
-    ensures refused { result ≡ Err DeterminizeErr.TooManySets → HasReachedSets rows.now 16385 }
+    ensures alone { (result ≢ Err BuildErr.TooManyRows) × (result ≢ Err BuildErr.TooManyStatuses) }
+    ensures refused { result ≡ Err BuildErr.TooManySets → HasReachedSets rows.now 16385 }
 {
     let span = span_of(candidates);
     for category in 0..rows.categories as usize {
@@ -88,12 +87,13 @@ fn lead_nowhere(rows: &Rows, cells: &mut Vec<u16>) -> Result<(), AllocError>
 }
 
 /// The cells of rows 0 and 1 and of a row for each set, with the sets that are found on the way.
-fn lead_all(alloc: Global, rows: &Rows, sets: &mut NumberedRows) -> Result<Vec<u16>, DeterminizeErr>
+fn lead_all(alloc: Global, rows: &Rows, sets: &mut NumberedRows) -> Result<Vec<u16>, BuildErr>
     requires { sets.old ≡ [] }
     ensures reached { OnOk result (AreReachedSets rows.now sets.new) }
     ensures cells { IfOk result (λ cells.
         AreCellsUpTo rows.now sets.new cells.items (length sets.new)) }
-    ensures refused { result ≡ Err DeterminizeErr.TooManySets → HasReachedSets rows.now 16385 }
+    ensures alone { (result ≢ Err BuildErr.TooManyRows) × (result ≢ Err BuildErr.TooManyStatuses) }
+    ensures refused { result ≡ Err BuildErr.TooManySets → HasReachedSets rows.now 16385 }
 {
     let mut candidate_row: Vec<u64> = vec![in alloc; 0; rows.width]?;
     let candidates = candidate_row.as_mut_slice();
@@ -125,8 +125,7 @@ fn mark_all(
 ) -> Result<(Vec<Head>, Vec<Vec<u32>>), AllocError>
     requires { AreReachedSets rows.now sets.now }
     ensures { IfOk result (λ marked.
-        AreMarked rows.now sets.now marked.0.items
-        (items_of marked.1.items) (length sets.now)) }
+        AreMarked rows.now sets.now marked.0.items (items_of marked.1.items) (length sets.now)) }
 {
     let plain = Head {
         accept: 0,
@@ -156,10 +155,11 @@ fn mark_all(
 /// The determinised automaton of the positions.
 ///
 /// Refuses `TooManySets` where more than 16,384 sets of positions that aren't empty are reached.
-pub(crate) fn determinized(alloc: Global, rows: &Rows) -> Result<Automaton, DeterminizeErr>
+pub(crate) fn determinized(alloc: Global, rows: &Rows) -> Result<Automaton, BuildErr>
     ensures exact { IfOk result (λ automaton. (sets : List (List ℕ)) × (length sets ≤ 16384)
         × IsDeterminized rows.now sets automaton) }
-    ensures refused { result ≡ Err DeterminizeErr.TooManySets → HasReachedSets rows.now 16385 }
+    ensures alone { (result ≢ Err BuildErr.TooManyRows) × (result ≢ Err BuildErr.TooManyStatuses) }
+    ensures refused { result ≡ Err BuildErr.TooManySets → HasReachedSets rows.now 16385 }
 {
     let mut sets = NumberedRows::new(alloc)?;
     let cells = lead_all(alloc, rows, &mut sets)?;
@@ -180,7 +180,7 @@ pub(crate) fn automaton_of(
     positions: &Positions,
     categories: u16,
     slashes: u16,
-) -> Result<Automaton, DeterminizeErr>
+) -> Result<Automaton, BuildErr>
     requires some_categories { 1 ≤ categories }
     requires few_categories { categories ≤ 1000 }
     requires readable { AreReadable positions.now categories slashes }
@@ -188,12 +188,12 @@ pub(crate) fn automaton_of(
     ensures marks { IfOk result (λ automaton. (rules : List Rule) (ranges : List CategoryRange) →
         AreOf rules categories slashes ranges positions.now →
         HasSameMarks (with_ranges automaton ranges) rules) }
-    ensures determined { IfOk result (λ automaton. (rules : List Rule)
-        (ranges : List CategoryRange) → AreOf rules categories slashes ranges positions.now →
-        IsDetermined automaton) }
+    ensures determined { IfOk result (λ automaton. (rules : List Rule) (ranges : List CategoryRange)
+        → AreOf rules categories slashes ranges positions.now → IsDetermined automaton) }
     ensures few { OnOk result ((rules : List Rule) (ranges : List CategoryRange) →
         AreOf rules categories slashes ranges positions.now → ¬ HasLeafSets rules 16385) }
-    ensures too_many { result ≡ Err DeterminizeErr.TooManySets →
+    ensures alone { (result ≢ Err BuildErr.TooManyRows) × (result ≢ Err BuildErr.TooManyStatuses) }
+    ensures too_many { result ≡ Err BuildErr.TooManySets →
         (rules : List Rule) (ranges : List CategoryRange) →
         AreOf rules categories slashes ranges positions.now → HasLeafSets rules 16385 }
 {

@@ -1,5 +1,9 @@
 //! Why rules aren't compiled.
-use std::alloc::AllocError;
+ghost use Rattle.std.specs.Prelude.{◌≡◌, None};
+ghost use Rattle.rbbi_dfa.specs.declared.error.BuildErr.TheVariants.{Memory};
+ghost use Rattle.rbbi_dfa.specs.Refusals.{label_of};
+
+use std::alloc::{AllocError, AllocFailed};
 use thiserror::Error;
 
 /// Why rules aren't compiled.
@@ -20,9 +24,6 @@ pub enum BuildErr {
 }
 
 impl From<AllocError> for BuildErr {
-    ghost use Rattle.std.specs.Prelude.{◌≡◌};
-    ghost use Rattle.rbbi_dfa.specs.declared.error.BuildErr.TheVariants.{Memory};
-
     ghost from_gives = { λ _ e. e ≡ Memory };
 
     fn from(_error: AllocError) -> BuildErr {
@@ -30,10 +31,15 @@ impl From<AllocError> for BuildErr {
     }
 }
 
-impl BuildErr {
-    ghost use Rattle.std.specs.Prelude.{◌≡◌, None};
-    ghost use Rattle.rbbi_dfa.specs.Refusals.{label_of};
+impl<T: Drop> From<AllocFailed<T>> for BuildErr {
+    ghost from_gives = { λ _ e. e ≡ Memory };
 
+    fn from(_error: AllocFailed<T>) -> BuildErr {
+        BuildErr::Memory
+    }
+}
+
+impl BuildErr {
     /// The name of the variant.
     pub fn label(&self) -> &str
         ensures { result.now ≡ label_of self.now }

@@ -6,7 +6,6 @@ mod compile;
 mod determinize;
 mod error;
 mod laws;
-mod least;
 mod minimize;
 mod table;
 

@@ -34,8 +34,7 @@ pub(crate) fn minimize(
 ) -> Result<Option<Partition>, AllocError>
     requires determined { IsDetermined automaton.now }
     requires places { (sorted : List (List ℕ)) × AreRanked automaton.now.lists sorted places.now }
-    ensures { IfOk result (λ found. MatchOption found
-        (NeedsRows automaton.now 4095)
+    ensures { IfOk result (λ found. MatchOption found (NeedsRows automaton.now 4095)
         (λ partition. IsMinimized automaton.now partition.classes.items partition.firsts.items)) }
 {
     let mut partition = Partition::by_marks(alloc, automaton, places)?;
@@ -66,9 +65,8 @@ fn split_off(
     requires row { row < length automaton.now.rows }
     requires category { category < automaton.now.categories }
     requires differs { slice_index partition.old.classes.items (step automaton.now row category)
-        ≢ slice_index partition.old.classes.items (step automaton.now
-        (slice_index partition.old.firsts.items (slice_index partition.old.classes.items row))
-        category) }
+        ≢ slice_index partition.old.classes.items (step automaton.now (slice_index
+        partition.old.firsts.items (slice_index partition.old.classes.items row)) category) }
     ensures partition { IsPartition automaton.now partition.new.classes.items
         partition.new.firsts.items }
     ensures grows { OnOk result (length partition.new.firsts.items ≡ length

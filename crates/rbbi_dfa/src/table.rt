@@ -4,11 +4,11 @@ ghost use Rattle.rbbi_model.specs.ValidTables.{AreValidRanges, AreValidRows};
 ghost use Rattle.rbbi_table.specs.Parts.{table_of};
 ghost use Rattle.rbbi_table.specs.Pairs.{ArePairsOf};
 ghost use Rattle.rbbi_dfa.specs.inner.Automata.{IsDetermined};
-ghost use Rattle.rbbi_dfa.specs.inner.LeastTables.{GivesTable, finished};
+ghost use Rattle.rbbi_dfa.specs.inner.LeastTables.{GivesLeast, GivesTable, finished};
 
 use crate::automaton::Automaton;
 use crate::error::BuildErr;
-use crate::least::least;
+use crate::minimize::{merge, minimize, rank_lists};
 use rbbi_table::{CellList, NumberList, NumberLists, Parts, RangeList, RowList, Table, safe_pairs};
 use std::alloc::{AllocError, Global};
 
@@ -27,6 +27,21 @@ pub(crate) fn least_table(
     let least = least(alloc, automaton)?;
     let parts = parts_of(alloc, least, ranges)?;
     Ok(Table::from_valid(alloc, &parts)?)
+}
+
+/// The least automaton with the same marks along all categories, with at most 4,095 rows. Its
+/// status lists are in order, and each but the first is some row's.
+///
+/// Refuses `TooManyRows` exactly where more rows are needed, rows 0 and 1 counted.
+fn least(alloc: Global, automaton: &Automaton) -> Result<Automaton, BuildErr>
+    requires { IsDetermined automaton.now }
+    ensures { GivesLeast automaton.now result }
+{
+    let ranks = rank_lists(alloc, &automaton.lists)?;
+    match minimize(alloc, automaton, &ranks.places)? {
+        None => Err(BuildErr::TooManyRows),
+        Some(partition) => Ok(merge(alloc, automaton, &ranks, &partition)?),
+    }
 }
 
 /// The parts of a table: those of the least automaton, these ranges, and the bits of all safe

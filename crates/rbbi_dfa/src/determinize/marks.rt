@@ -49,11 +49,10 @@ pub(crate) fn fronts(rows: &Rows, set: &[u64]) -> u32
 
 /// Adds the status number at the end, unless the last one isn't below it.
 fn add_status(statuses: &mut Vec<u32>, status: u32) -> Result<(), AllocError>
-    ensures { OnOk result (
-        ((statuses.new.items ≡ statuses.old.items) × ((k : ℕ) × (length statuses.old.items ≡ k + 1)
-        × (status ≤ slice_index statuses.old.items k)))
-        ⊎ ((statuses.new.items ≡ statuses.old.items ++ status ∷ []) × ((k : ℕ) →
-        length statuses.old.items ≡ k + 1 → slice_index statuses.old.items k < status))) }
+    ensures { OnOk result (((statuses.new.items ≡ statuses.old.items) × ((k : ℕ)
+        × (length statuses.old.items ≡ k + 1) × (status ≤ slice_index statuses.old.items k)))
+        ⊎ ((statuses.new.items ≡ statuses.old.items ++ status ∷ []) × ((k : ℕ)
+        → length statuses.old.items ≡ k + 1 → slice_index statuses.old.items k < status))) }
 {
     let len = statuses.len();
     if len > 0 && status <= statuses[len - 1] {

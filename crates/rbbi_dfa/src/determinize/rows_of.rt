@@ -98,17 +98,13 @@ fn follow_rows(alloc: Global, positions: &Positions) -> Result<Vec<SpannedRow>, 
 }
 
 /// For each category the row of the positions that read it.
-fn read_rows(
-    alloc: Global,
-    positions: &Positions,
-    categories: u16,
-) -> Result<Vec<Vec<u64>>, AllocError>
-    requires { positions.now.categories ≡ categories }
-    ensures { IfOk result (λ rows. AreRowsIn positions.now.words categories
+fn read_rows(alloc: Global, positions: &Positions, count: u16) -> Result<Vec<Vec<u64>>, AllocError>
+    requires { positions.now.categories ≡ count }
+    ensures { IfOk result (λ rows. AreRowsIn positions.now.words count
         (readers_in positions.now) (items_of rows.items)) }
 {
     let mut rows: Vec<Vec<u64>> = Vec::new(alloc);
-    for category in 0..categories {
+    for category in 0..count {
         let words = positions.readers(category).to_vec(alloc)?;
         rows.push(words)?;
     }

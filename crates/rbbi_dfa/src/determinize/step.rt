@@ -1,9 +1,8 @@
 //! Which set of positions comes next by a category.
-ghost use Rattle.std.specs.Prelude.{◌≡◌, ◌<◌, ◌+◌, ◌*◌, ℕ, length, IsTrue, false};
+ghost use Rattle.std.specs.Prelude.{◌≡◌, ◌<◌, ℕ, length, IsTrue, false};
 ghost use Rattle.rbbi_bits.specs.BitRows.{Holds, IsSpan};
 ghost use Rattle.rbbi_bits.specs.NumberedRows.{listed_row};
-ghost use Rattle.rbbi_dfa.specs.inner.Determinizing.{IsStep, IsRow, AreFollowers, Completes};
-ghost use Rattle.rbbi_dfa.specs.inner.Determinizing.{AreFollowersUpTo};
+ghost use Rattle.rbbi_dfa.specs.inner.Determinizing.{IsStep, IsRow, Completes};
 
 use crate::determinize::position_rows::Rows;
 use rbbi_bits::{Span, has, intersect, meet, meet_within, unite_common};

@@ -1,7 +1,5 @@
 //! The status lists of the classes, in order and numbered.
 ghost use Rattle.std.specs.Prelude.{◌≡◌, ℕ, ◌<◌, length, map, slice_index, IfOk};
-ghost use Rattle.std.specs.List.{All};
-ghost use Rattle.rbbi_model.specs.Tables.{list_of};
 ghost use Rattle.rbbi_dfa.specs.inner.Automata.{IsDetermined};
 ghost use Rattle.rbbi_dfa.specs.inner.Ranks.{AreOrderedLists};
 ghost use Rattle.rbbi_dfa.specs.inner.Numbers.{ArePlacesOf, AreUsed, AreNumbered};

@@ -1,11 +1,9 @@
 //! The automaton whose rows are the classes of another's.
 ghost use Rattle.std.specs.Prelude.{◌≡◌, ℕ, ◌<◌, ◌≤◌, ◌*◌, length, map, slice_index, IfOk};
-ghost use Rattle.rbbi_model.specs.Tables.{step};
 ghost use Rattle.rbbi_dfa.specs.inner.Automata.{IsDetermined};
 ghost use Rattle.rbbi_dfa.specs.inner.Partitions.{IsMinimized, IsMerged};
 ghost use Rattle.rbbi_dfa.specs.inner.Ranks.{AreRanked};
-ghost use Rattle.rbbi_dfa.specs.inner.Numbers.{ArePlacesOf, AreUsed, AreNumbered, HaveCells};
-ghost use Rattle.rbbi_dfa.specs.inner.Numbers.{HaveHeads};
+ghost use Rattle.rbbi_dfa.specs.inner.Numbers.{HaveCells, HaveHeads};
 
 use crate::automaton::{Automaton, Head};
 use crate::minimize::lists::{number_lists, places_of_classes, used_places};
@@ -51,8 +49,7 @@ fn merged_heads(
     requires small { (class : ℕ) → class < length class_places.now →
         slice_index numbers.now (slice_index class_places.now class) ≤ 65535 }
     ensures { IfOk result (λ heads. HaveHeads automaton.now partition.now.firsts.items
-        class_places.now numbers.now
-        (length partition.now.firsts.items) heads.items) }
+        class_places.now numbers.now (length partition.now.firsts.items) heads.items) }
 {
     let mut heads = Vec::with_capacity(alloc, partition.firsts.len())?;
     for class in 0..partition.firsts.len() {

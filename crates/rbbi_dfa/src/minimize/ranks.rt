@@ -7,8 +7,7 @@ use std::alloc::{AllocError, Global};
 
 /// The lists in order, compared number by number, a prefix before what it begins, and each once.
 fn sorted_lists(alloc: Global, lists: &[Vec<u32>]) -> Result<Vec<&[u32]>, AllocError>
-    ensures { IfOk result (λ sorted. AreSorted
-        (map (λ statuses. statuses.items) lists.now)
+    ensures { IfOk result (λ sorted. AreSorted (map (λ statuses. statuses.items) lists.now)
         (map (λ statuses. statuses.now) sorted.items)) }
 {
     let mut sorted = Vec::with_capacity(alloc, lists.len())?;
@@ -23,12 +22,9 @@ fn sorted_lists(alloc: Global, lists: &[Vec<u32>]) -> Result<Vec<&[u32]>, AllocE
 /// The place of each list among the sorted ones.
 fn places(alloc: Global, lists: &[Vec<u32>], sorted: &[&[u32]]) -> Result<Vec<usize>, AllocError>
     requires { AreSorted
-        (map (λ statuses. statuses.items) lists.now)
-        (map (λ statuses. statuses.now) sorted.now) }
-    ensures { IfOk result (λ ranks. AreRanks
-        (map (λ statuses. statuses.items) lists.now)
-        (map (λ statuses. statuses.now) sorted.now)
-        ranks.items) }
+        (map (λ statuses. statuses.items) lists.now) (map (λ statuses. statuses.now) sorted.now) }
+    ensures { IfOk result (λ ranks. AreRanks (map (λ statuses. statuses.items) lists.now)
+        (map (λ statuses. statuses.now) sorted.now) ranks.items) }
 {
     let mut ranks = Vec::with_capacity(alloc, lists.len())?;
     for list in lists {
@@ -62,10 +58,8 @@ pub(crate) struct Ranks<'a> {
 
 /// Sorts the status lists of an automaton.
 pub(crate) fn rank_lists(alloc: Global, lists: &[Vec<u32>]) -> Result<Ranks<'_>, AllocError>
-    ensures { IfOk result (λ ranks. AreRanked
-        (map (λ statuses. statuses.items) lists.now)
-        (map (λ statuses. statuses.now) ranks.sorted.items)
-        ranks.places.items) }
+    ensures { IfOk result (λ ranks. AreRanked (map (λ statuses. statuses.items) lists.now)
+        (map (λ statuses. statuses.now) ranks.sorted.items) ranks.places.items) }
 {
     let sorted = sorted_lists(alloc, lists)?;
     let places = places(alloc, lists, &sorted)?;

@@ -37,14 +37,12 @@ pub(crate) fn refine(
         if partition.firsts.len() > MOST_ROWS {
             return Ok(());
         }
-        match work.next() {
-            None => return Ok(()),
-            Some(splitter) => {
-                split_by(
-                    alloc, automaton, &inverse, partition, &mut work, &mut tally, splitter,
-                )?;
-            }
-        }
+        let Some(splitter) = work.next() else {
+            return Ok(());
+        };
+        split_by(
+            alloc, automaton, &inverse, partition, &mut work, &mut tally, splitter,
+        )?;
     }
     Ok(())
 }

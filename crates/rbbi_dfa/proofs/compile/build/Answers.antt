@@ -1,4 +1,4 @@
-use Rattle.std.proofs.Common.{◌≡◌, Err, ap, sym, subst, ◌∙◌, ℕ, List}
+use Rattle.std.proofs.Common.{◌≡◌, Err, ap, sym, subst, ◌∙◌, ℕ, List, rules as std_rules}
 use Rattle.rbbi_model.specs.Tables.{CategoryRange}
 use Rattle.rbbi_model.specs.ValidTables.{AreValidRanges}
 use Rattle.rbbi_model.specs.Compiled.{AreClasses}
@@ -24,6 +24,7 @@ returns-in_err-automaton c = λ rules h.
     (λ e. c.in_err-automaton.ensures.too_many (ap Err e) rules cats.ranges
     (AreOf-from_compilable rules marks cats c.count.result c.look_aheads-slashes.result h c.count.ensures.form
     c.count.ensures.value c.look_aheads-slashes.ensures))
+    (λ e. c.in_err-automaton.ensures.alone.0 (ap Err e)) (λ e. c.in_err-automaton.ensures.alone.1 (ap Err e))
 
 pub least_table-requires-clause-determined : goal.least_table-requires-clause-determined
 least_table-requires-clause-determined c =
@@ -43,7 +44,7 @@ returns c = λ rules h.
     AreOf-from_compilable rules marks cats c.count.result c.look_aheads-slashes.result h c.count.ensures.form
     c.count.ensures.value c.look_aheads-slashes.ensures in
     let is : automaton.categories ≡ c.count.result = c.in_ok-automaton.ensures.categories in
-    let same : c.in_ok-ranges.ranges ≡ cats.ranges = c.in_ok-ranges.ensures ∙ c.ranges-2.ensures.value in
+    let same : c.from_vec-ranges.result ≡ cats.ranges = search std_rules in
     BuildsTable-from_gives rules cats.ranges automaton (c.in_ok-automaton.ensures.determined rules cats.ranges of)
     (c.in_ok-automaton.ensures.marks rules cats.ranges of)
     (subst (λ (n : ℕ). AreValidRanges n cats.ranges) (sym is) of.valid)

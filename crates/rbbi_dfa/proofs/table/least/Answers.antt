@@ -1,5 +1,5 @@
 use Rattle.rbbi_dfa.proofs.Leastness.{IsLeastOf-merged}
-use Rattle.rbbi_dfa.proofs.least.least.Goals as goal
+use Rattle.rbbi_dfa.proofs.table.least.Goals as goal
 
 pub returns : goal.returns
 returns c =
