@@ -16,7 +16,7 @@ pub(crate) struct Work {
 }
 
 impl Work {
-    /// All classes but the largest wait.
+    /// All classes wait.
     pub fn new(alloc: Global, classes: &[u16], count: usize) -> Result<Work, AllocError>
         requires { count ≤ 65535 }
     {
@@ -30,28 +30,10 @@ impl Work {
                 *size = size.wrapping_add(1);
             }
         }
-        let largest = work.largest();
         for class in 0..count {
-            if class != largest {
-                work.waiting.push(class as u16)?;
-            } else if let Some(waits) = work.waits.get_mut(class) {
-                *waits = false;
-            }
+            work.waiting.push(class as u16)?;
         }
         Ok(work)
-    }
-
-    /// The first of the largest classes.
-    fn largest(&self) -> usize {
-        let mut largest = 0;
-        let mut most = 0;
-        for (class, size) in self.sizes.iter().enumerate() {
-            if *size > most {
-                largest = class;
-                most = *size;
-            }
-        }
-        largest
     }
 
     /// A new class of this size, the last, which waits or not.
