@@ -54,11 +54,8 @@ impl FileErr {
         ensures { result ≡ place_of self.now }
     {
         match self {
-            FileErr::Short(at) => Some(*at),
-            FileErr::Trailing(at) => Some(*at),
-            FileErr::BadMagic => None,
-            FileErr::Part(_) => None,
-            FileErr::Memory => None,
+            FileErr::Short(at) | FileErr::Trailing(at) => Some(*at),
+            FileErr::BadMagic | FileErr::Part(_) | FileErr::Memory => None,
         }
     }
 }

@@ -1,6 +1,5 @@
 //! Numbers as bytes, the byte of least value first.
-ghost use Rattle.std.specs.Prelude.{◌≡◌, ◌+◌, ◌*◌, ◌^◌, ◌<◌, ◌≤◌, ◌++◌, length, IfOk, OnOk};
-ghost use Rattle.std.specs.Prelude.{flat_map};
+ghost use Rattle.std.specs.Prelude.{◌≡◌, ◌+◌, ◌*◌, ◌^◌, ◌<◌, ◌≤◌, ◌++◌, length, OnOk, flat_map};
 ghost use Rattle.rbbi_model.specs.TableFile.{u16 as two_bytes, u32 as four_bytes, little_endian};
 ghost use Rattle.rbbi_file.specs.Lengths.{u16_at as number_in_two, u32_at as number_in_four};
 ghost use Rattle.rbbi_file.specs.inner.Reading.{Stand};
@@ -36,17 +35,13 @@ fn put_sized(out: &mut Vec<u8>, size: usize, n: u16) -> Result<(), AllocError>
 }
 
 /// Adds numbers, each in one or two bytes.
-pub(crate) fn put_all_sized(
-    out: &mut Vec<u8>,
-    size: usize,
-    numbers: &[u16],
-) -> Result<(), AllocError>
+pub(crate) fn put_all_sized(out: &mut Vec<u8>, size: usize, list: &[u16]) -> Result<(), AllocError>
     requires some { 1 ≤ size }
     requires few { size ≤ 2 }
     ensures { OnOk result
-        (out.new.items ≡ out.old.items ++ flat_map (little_endian size) numbers.now) }
+        (out.new.items ≡ out.old.items ++ flat_map (little_endian size) list.now) }
 {
-    for n in numbers {
+    for n in list {
         put_sized(out, size, *n)?;
     }
     Ok(())

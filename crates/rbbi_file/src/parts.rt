@@ -1,9 +1,8 @@
 //! The parts of a table from bytes.
-ghost use Rattle.std.specs.Prelude.{◌≡◌, ◌+◌, ◌*◌, ◌^◌, ◌<◌, ◌≤◌, ◌++◌, length, IfOk, OnOk};
-ghost use Rattle.std.specs.Prelude.{flat_map};
+ghost use Rattle.std.specs.Prelude.{◌≡◌, ◌+◌, ◌*◌, ◌^◌, ◌<◌, ◌≤◌, length, IfOk, OnOk, flat_map};
 ghost use Rattle.std.specs.List.{AllByRecursion};
 ghost use Rattle.rbbi_model.specs.TableFile.{u16 as two_bytes, u32 as four_bytes, range_bytes};
-ghost use Rattle.rbbi_model.specs.TableFile.{list_bytes, head_bytes, row_bytes};
+ghost use Rattle.rbbi_model.specs.TableFile.{list_bytes, head_bytes};
 ghost use Rattle.rbbi_file.specs.Lengths.{lists_end, rows_size};
 ghost use Rattle.rbbi_file.specs.Fitting.{FitsRange, FitsList, FitsHead};
 ghost use Rattle.rbbi_file.specs.inner.Reading.{Stand, AreCellsAt, AreListsAt, AreRowsAt};

@@ -1,6 +1,5 @@
 //! A table from bytes.
-ghost use Rattle.std.specs.Prelude.{◌≡◌, ◌^◌, ◌<◌, ◌≤◌, ◌++◌, length, IfOk, MatchOption};
-ghost use Rattle.std.specs.Prelude.{MatchBool};
+ghost use Rattle.std.specs.Prelude.{◌≡◌, ◌^◌, ◌<◌, ◌≤◌, ◌++◌, length, IfOk, MatchOption, MatchBool};
 ghost use Rattle.rbbi_model.specs.TableFile.{u16 as two_bytes, u32 as four_bytes};
 ghost use Rattle.rbbi_text.specs.Bytes.{most_bytes};
 ghost use Rattle.rbbi_table.specs.Parts.{table_of};
@@ -38,10 +37,8 @@ fn counts_of(bytes: &[u8]) -> Counts
     ensures lists { result.lists ≡ number_in_two bytes.now 14 }
     ensures rows { result.rows ≡ number_in_two bytes.now 16 }
     ensures slashes { result.slashes ≡ number_in_two bytes.now 18 }
-    ensures stand { Stand bytes.now
-        (two_bytes result.categories ++ four_bytes result.ranges ++ two_bytes result.lists
-        ++ two_bytes result.rows ++ two_bytes result.slashes)
-        8 20 }
+    ensures stand { Stand bytes.now (two_bytes result.categories ++ four_bytes result.ranges
+        ++ two_bytes result.lists ++ two_bytes result.rows ++ two_bytes result.slashes) 8 20 }
 {
     Counts {
         categories: u16_at(bytes, 8),
