@@ -53,12 +53,8 @@ pub(crate) fn join_categories(
         let start = range.start;
         add_range(&mut joined, RangeRow { start, cat })?;
     }
-    let Numbering {
-        order: firsts,
-        places: _,
-    } = met;
     Ok(Joined {
-        firsts,
+        firsts: met.order,
         ranges: joined,
     })
 }

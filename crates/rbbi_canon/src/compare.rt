@@ -20,9 +20,8 @@ use std::alloc::{AllocError, Global};
 /// union-find (Hopcroft and Karp 1971). So it looks at fewer pairs than both tables have rows, and
 /// at fewer letters from each than both have categories; no clause counts them.
 pub fn differ(alloc: Global, these: &Table, those: &Table) -> Result<Option<Word>, AllocError>
-    ensures { IfOk result (λ found. MatchOption found
-        (AreMarkedAlike these.now those.now)
-        (TellsApart these.now those.now)) }
+    ensures { IfOk result (λ found.
+        MatchOption found (AreMarkedAlike these.now those.now) (TellsApart these.now those.now)) }
 {
     these.valid();
     those.valid();

@@ -35,8 +35,7 @@ fn add_letter(
     letters: &mut Vec<Letter>,
 ) -> Result<(), AllocError>
     requires { AreLettersSoFar these.now those.now sets.old letters.old.items }
-    ensures letters { OnOk result
-        (AreLettersSoFar these.now those.now sets.new letters.new.items) }
+    ensures letters { OnOk result (AreLettersSoFar these.now those.now sets.new letters.new.items) }
     ensures stay { OnOk result (StayConnected sets.old sets.new) }
     ensures connected { OnOk result
         (IsConnected these.now those.now sets.new (first_character start)) }

@@ -32,8 +32,7 @@ impl Numbering {
         requires { number < length self.old.places.items }
         ensures place { IfOk result (λ place. (place < length self.new.order.items)
             × (slice_index self.new.order.items place ≡ number)) }
-        ensures order { OnOk result
-            (KeepsOrAdds self.old.order.items number self.new.order.items) }
+        ensures order { OnOk result (KeepsOrAdds self.old.order.items number self.new.order.items) }
         ensures count { length self.new.places.items ≡ length self.old.places.items }
     {
         let place = self.places[number as usize];
