@@ -1,6 +1,5 @@
-use Rattle.std.proofs.Common.{◌≡◌, ◌-◌, ◌≤◌, length, length-drop, take, drop, sym, ◌∙◌, subst, rules, arith}
+use Rattle.std.proofs.Common.{◌≡◌, ◌-◌, length, length-drop, drop, sym, ◌∙◌, subst, rules, arith}
 use Rattle.std.proofs.lemmas.List.{take_all}
-use Rattle.rbbi_model.specs.Words.{IsText}
 use Rattle.rbbi_filter.specs.Abbreviations.{window}
 use Rattle.rbbi_filter.proofs.Windows.{enough_ends, enough_text, told_by_window}
 use Rattle.rbbi_filter.proofs.window.is_suppressed.Goals as goal
