@@ -5,7 +5,8 @@ use Rattle.std.specs.Prelude.{◌&&◌, ◌||◌, ◌==◌, nat_eq, nat_lt, reve
 use Rattle.std.specs.List.{AllByRecursion, list_any, prefix_len, suffix_len}
 use Rattle.std.specs.Cmp.Lexicographic.{pointwise}
 use Rattle.std.proofs.lemmas.Bool.{lt-ltb, cases_lt, ne_eqb, cond-false, cond-true}
-use Rattle.std.proofs.lemmas.List.{reverse-append, length-reverse, length-take-le, take_all, get_or-append_right, take-append-drop, drop_more, get_or-set_same, drop-set-lt, drop-drop, drop-take, length-set}
+use Rattle.std.proofs.lemmas.List.{reverse-append, length-reverse, length-take-le, take_all, get_or-append_right, take-append-drop}
+use Rattle.std.proofs.lemmas.List.{drop_more, get_or-set_same, drop-set-lt, drop-drop, drop-take, length-set}
 use Rattle.std.proofs.lemmas.List.Folds.{prefix_len-append}
 use Rattle.std.proofs.lemmas.List.Sums.{suffix_len-le-length}
 use Rattle.rbbi_model.specs.Words.{IsText}
@@ -200,4 +201,5 @@ read_enough x part place at longest reach order within is none most = record {
 -- a place within the text is suppressed where the characters before it end with an abbreviation
 pub told_by_window : (list : List (List ℕ)) (x : List ℕ) (at : ℕ) → 0 < at → at < length x → ends list (window x at) ≡ is_suppressed list x at
 told_by_window list x at some within =
-    sym (ap (λ b. b && (nat_lt at (length x) && ends list (window x at))) (lt-ltb 0 at some) ∙ ap (λ b. b && ends list (window x at)) (lt-ltb at (length x) within))
+    sym (ap (λ b. b && (nat_lt at (length x) && ends list (window x at))) (lt-ltb 0 at some)
+    ∙ ap (λ b. b && ends list (window x at)) (lt-ltb at (length x) within))
