@@ -1,4 +1,5 @@
-pub mod Keys
+pub mod Members
+pub mod Windows
 pub mod Sifting
 pub mod Neighbours
 pub mod Passing

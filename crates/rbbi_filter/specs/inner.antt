@@ -2,4 +2,4 @@
 pub mod Windows
 pub mod Turning
 pub mod PairLines
-pub mod Keys
+pub mod Members

@@ -1,13 +1,14 @@
 //! Abbreviations, as a file lists them.
-ghost use Rattle.std.specs.Prelude.{◌≡◌, ◌↔◌, ◌≤◌, IsTrue, length};
+ghost use Rattle.std.specs.Prelude.{◌≡◌, ◌↔◌, ◌≤◌, IsTrue, IfOk, length};
+ghost use Rattle.std.specs.List.{AllByRecursion};
 ghost use Rattle.rbbi_text.specs.Bytes.{most_bytes};
 ghost use Rattle.rbbi_filter.specs.AbbreviationFiles.{IsAbbreviation, ReadsAbbreviations};
 ghost use Rattle.rbbi_filter.specs.Abbreviations as spec;
-ghost use Rattle.rbbi_filter.specs.inner.Keys as keys;
 
 use rbbi_script::is_skipped;
 use rbbi_text::{Line, LineValue, LinesErr, Values, read_lines};
 use std::alloc::{AllocError, Global};
+use std::collections::HashSet;
 use std::marker::Model;
 
 /// Why a file of abbreviations is refused: `BadLine` has the first line that is neither skipped nor
@@ -18,32 +19,24 @@ pub type AbbrErr = LinesErr;
 #[derive(Debug, Drop)]
 struct Abbreviation {
     characters: Vec<char>,
-    /// The key of the characters: those that end with them, where nothing or white space stands
-    /// before, have the same one. So few abbreviations of a list are compared character by
-    /// character.
-    key: u32,
 }
 
 impl Model for Abbreviation {
     ghost use Rattle.std.specs.Prelude.{List, ℕ};
-    ghost use Rattle.rbbi_filter.specs.inner.Keys.{HasKey};
 
     ghost Value = { List ℕ };
 
     ghost view = { λ abbreviation. abbreviation.characters.items };
-
-    ghost invariant = { λ abbreviation.
-        HasKey abbreviation.characters.items abbreviation.key };
 }
 
 impl Abbreviation {
-    /// Whether characters, which have this key, end with the abbreviation, before which nothing
-    /// stands or white space.
-    fn is_ending(&self, w: &[char], key: u32) -> bool
-        requires { key ≡ keys.key_of w.now }
-        ensures { result ≡ spec.ends_with_member w.now self.now }
+    /// A copy of its characters.
+    fn copied(&self, alloc: Global) -> Result<Vec<char>, AllocError>
+        ensures { IfOk result (λ characters. characters.items ≡ self.now) }
     {
-        self.key == key && ends_with_member(w, &self.characters)
+        let mut characters = Vec::with_capacity(alloc, self.characters.len())?;
+        characters.extend_from_slice(&self.characters)?;
+        Ok(characters)
     }
 }
 
@@ -51,14 +44,22 @@ impl Abbreviation {
 #[derive(Debug, Drop)]
 pub struct Abbreviations {
     list: Values<Abbreviation>,
+    /// The same abbreviations as a set, so that a question costs no more where they are many.
+    members: HashSet<Vec<char>>,
+    /// The length of the longest one.
+    longest: usize,
 }
 
 impl Model for Abbreviations {
-    ghost use Rattle.std.specs.Prelude.{List, ℕ};
+    ghost use Rattle.std.specs.Prelude.{List, ℕ, map};
+    ghost use Rattle.rbbi_filter.specs.inner.Members.{AreMembers};
 
     ghost Value = { List (List ℕ) };
 
     ghost view = { λ abbreviations. abbreviations.list };
+
+    ghost invariant = { λ abbreviations. AreMembers abbreviations.list
+        (map (λ member. member.items) abbreviations.members.keys) abbreviations.longest };
 }
 
 impl Abbreviations {
@@ -76,7 +77,7 @@ impl Abbreviations {
         ensures { ReadsAbbreviations bytes.now result }
     {
         match read_lines(alloc, bytes) {
-            Ok(list) => Ok(Abbreviations { list }),
+            Ok(list) => Ok(abbreviations_of(alloc, list)?),
             Err(error) => Err(error),
         }
     }
@@ -87,14 +88,39 @@ impl Abbreviations {
         ensures { result ≡ spec.ends self.now w.now }
     {
         let w = without_last_spaces(w);
-        let key = key_of(w);
-        for i in 0..self.list.len() {
-            if self.list.get(i).is_ending(w, key) {
+        for len in 0..self.longest.min(w.len()) + 1 {
+            let start = w.len() - len;
+            if ends_apart(&w[..start]) && self.members.contains(&w[start..]) {
                 return true;
             }
         }
         false
     }
+
+    /// The length of the longest abbreviation.
+    pub(crate) fn longest(&self) -> usize
+        ensures { AllByRecursion (λ member. length member ≤ result) self.now }
+    {
+        self.longest
+    }
+}
+
+/// The abbreviations of a list.
+fn abbreviations_of(alloc: Global, list: Values<Abbreviation>) -> Result<Abbreviations, AllocError>
+    ensures { IfOk result (λ abbreviations. abbreviations ≡ list) }
+{
+    let mut members = HashSet::new(alloc);
+    let mut longest = 0usize;
+    for i in 0..list.len() {
+        let member = list.get(i).copied(alloc)?;
+        longest = longest.max(member.len());
+        members.insert(member)?;
+    }
+    Ok(Abbreviations {
+        list,
+        members,
+        longest,
+    })
 }
 
 /// The characters without the spaces at their end.
@@ -106,29 +132,6 @@ fn without_last_spaces(w: &[char]) -> &[char]
         end -= 1;
     }
     &w[..end]
-}
-
-/// The key of characters: 0 where fewer than two are there or white space stands before the last,
-/// and otherwise one more than what stands there.
-fn key_of(w: &[char]) -> u32
-    ensures { result ≡ keys.key_of w.now }
-{
-    if w.len() < 2 {
-        return 0;
-    }
-    let before = w[w.len() - 2];
-    if is_white_space(before) {
-        0
-    } else {
-        before as u32 + 1
-    }
-}
-
-/// Whether characters end with an abbreviation, before which nothing stands or white space.
-fn ends_with_member(w: &[char], member: &[char]) -> bool
-    ensures { result ≡ spec.ends_with_member w.now member.now }
-{
-    w.ends_with(member) && ends_apart(&w[..w.len() - member.len()])
 }
 
 /// Whether there are no characters, or the last one is white space.
@@ -166,8 +169,7 @@ impl LineValue for Abbreviation {
         if !is_abbreviation(&characters) {
             return Ok(Line::Bad);
         }
-        let key = key_of(&characters);
-        Ok(Line::Writes(Abbreviation { characters, key }))
+        Ok(Line::Writes(Abbreviation { characters }))
     }
 }
 

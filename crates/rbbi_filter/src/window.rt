@@ -1,9 +1,10 @@
 //! The characters before a boundary, by which it may be suppressed.
-ghost use Rattle.std.specs.Prelude.{◌≡◌, ◌+◌, ◌≤◌, min, length, take};
+ghost use Rattle.std.specs.Prelude.{◌≡◌, ◌≤◌, length, drop};
 ghost use Rattle.rbbi_text.specs.Steps.{RisesUpTo};
 ghost use Rattle.rbbi_filter.specs.Abbreviations as spec;
 ghost use Rattle.rbbi_filter.specs.Abbreviations.{window_size};
 ghost use Rattle.rbbi_filter.specs.Closures.{AnswersEnds};
+ghost use Rattle.rbbi_filter.specs.inner.Windows.{IsEnough};
 
 use crate::{Abbreviations, Predicate};
 use rbbi_text::{Chars, Steps};
@@ -12,25 +13,34 @@ use std::sync::ledger::Ledger;
 /// How many characters before a boundary are looked at.
 const SIZE: usize = 64;
 
-/// Reads the characters before a place, as many as the window holds, into its front. The answer is
-/// their number.
+/// Reads the characters before a place, from the last one on, into the window's end: those without
+/// the spaces at their end, as many as tell whether an abbreviation of at most `longest` characters
+/// stands there. The answer is where they begin in the window.
 fn read_before<T: Chars, L: Ledger>(
     text: &T,
     at: u32,
+    longest: usize,
     window: &mut [char; SIZE],
     steps: &mut Steps<L>,
 ) -> usize
     requires { at ≤ length (T.characters text.now) }
-    ensures count { result ≤ window_size }
-    ensures window { take result window.new ≡ spec.window (T.characters text.now) at }
-    ensures read { steps.new ≡ steps.old + result }
+    ensures within { result ≤ window_size }
+    ensures enough { IsEnough longest (spec.window (T.characters text.now) at)
+        (drop result window.new) }
+    ensures read { RisesUpTo window_size steps.old steps.new }
 {
-    let start = at.saturating_sub(SIZE as u32);
-    let count = (at - start) as usize;
-    for k in 0..count {
-        window[k] = text.char_at(start + k as u32, steps);
+    let low = at.saturating_sub(SIZE as u32);
+    let mut place = at;
+    let mut first = SIZE;
+    while place > low && SIZE - first <= longest {
+        place -= 1;
+        let c = text.char_at(place, steps);
+        if first < SIZE || c != ' ' {
+            first -= 1;
+            window[first] = c;
+        }
     }
-    count
+    first
 }
 
 /// Whether a boundary isn't reported since an abbreviation stands before it: it is neither the
@@ -52,6 +62,6 @@ pub(crate) fn is_suppressed<T: Chars, P: Predicate, L: Ledger>(
         return false;
     }
     let mut window = ['\0'; SIZE];
-    let count = read_before(text, at, &mut window, steps);
-    keep.holds(&window[..count])
+    let first = read_before(text, at, list.longest(), &mut window, steps);
+    keep.holds(&window[first..])
 }
