@@ -9,7 +9,9 @@ ghost use Rattle.rbbi_text.specs.Answers.{TakesText, ReadsText, ChecksEdit};
 ghost use Rattle.rbbi_model.specs.Units.{offset_of};
 
 use crate::measure::{fit_in, taken};
-use crate::{Chars, EditErr, EditText, Index, Raw, RawErr, Steps, TextErr, Unit, UnitText};
+use crate::{
+    Chars, EditErr, EditText, FlatText, Index, Raw, RawErr, Steps, TextErr, Unit, UnitText,
+};
 use std::alloc::{AllocError, Global};
 use std::fmt;
 use std::marker::Model;
@@ -172,5 +174,11 @@ impl UnitText for PlainText {
             at: fit.count as u32,
             whole: fit.units == o,
         }
+    }
+}
+
+impl FlatText for PlainText {
+    fn units_between(&self, unit: Unit, from: u32, to: u32) -> u32 {
+        PlainText::units_between(self, unit, from, to)
     }
 }
