@@ -38,7 +38,7 @@ impl fmt::Debug for AsciiText {
 }
 
 /// Whether all bytes are ASCII. It reads them all, so that many are compared at once.
-fn is_ascii(bytes: &[u8]) -> bool
+pub(crate) fn is_ascii(bytes: &[u8]) -> bool
     ensures { IsTrue result → IsAscii bytes.now }
 {
     let mut greatest = 0u8;
