@@ -20,13 +20,15 @@ def start(bench):
 def texts(bench):
     """Each rule file over each text. Reading and printing are in the characters a second; the start
     of the program and the compiling of the rules aren't, since two sizes are compared."""
+    ratios = []
     for name in ('letters', 'words', 'grapheme', 'word', 'sentence', 'line'):
         path, props, theirs = bench.rules(name)
         words = ['breaks'] + props + [path]
         lacking = bench.lacking(words + [bench.tiny()])
         for kind in inputs.TEXTS:
             paths = [inputs.make_text(bench.folder, kind, size) for size in bench.sizes]
-            line = Line(f'`breaks`, {name}.rules, {kind}, {bench.sizes[-1] // 1_000_000} M', lacking)
+            line = Line(f'`breaks`, {name}.rules, {kind}, {bench.sizes[-1] // 1_000_000} M', lacking,
+                        target='2 times ICU')
             rate = None
             if not lacking:
                 results = [bench.run(words + [text]) for text in paths]
@@ -38,8 +40,20 @@ def texts(bench):
                 alone = bench.icu_answer(['scan', theirs, paths[0], '5'])[1]
                 loop = rate_text(bench.sizes[0] / max(alone, 1e-9))
                 line.icu = f'{rate_text(icu)} (loop alone {loop})'
-                line.ratio = f'{rate / icu:.2f}' if rate else ''
+                if rate:
+                    ratios.append(rate / icu)
+                    line.ratio = f'{rate / icu:.2f}'
+                    line.verdict = 'met' if rate / icu >= 2 else f'{rate / icu:.2f} times'
             yield line
+    if ratios:
+        yield mean_of(ratios, 3)
+
+
+def mean_of(ratios, target):
+    """The geometric mean of the ratios of the lines before."""
+    mean = math.exp(sum(map(math.log, ratios)) / len(ratios))
+    return Line('the geometric mean of these', ratio=f'{mean:.2f}', target=f'{target} times ICU',
+                verdict='met' if mean >= target else f'{mean:.2f} times')
 
 
 def printing(bench):
@@ -261,12 +275,12 @@ def units(bench):
             line = Line(f'`breaks --units {unit}` over `breaks`, {name}.rules, {kind}, '
                         f'{bench.sizes[-1] // 1_000_000} M',
                         bench.lacking(['breaks', '--units', unit] + props + [path, bench.tiny()]),
-                        target='1.2 times')
+                        target='1.1 times')
             if not line.time:
                 behind = props + [path, inputs.make_text(bench.folder, kind, bench.sizes[-1])]
                 counted = bench.seconds(['breaks', '--units', unit] + behind)
                 alone = bench.seconds(['breaks'] + behind)
-                line.time, line.verdict = f'{counted / alone:.2f} times', verdict(counted / alone, 1.2)
+                line.time, line.verdict = f'{counted / alone:.2f} times', verdict(counted / alone, 1.1)
             yield line
     for edits in (False, True):
         yield from by_bytes(bench, edits)
@@ -330,11 +344,11 @@ def filters(bench):
     """`breaks` through 200 abbreviations and through 200 pairs over `breaks`, and what a question costs
     through them, by the length of the text."""
     path, props, _ = bench.rules('sentence')
-    files = {'--suppress': (bench.file('filter.abbreviations', inputs.abbreviations(200)), 1.5),
-             '--tailor': (bench.file('filter.pairs', inputs.pairs(200)), 1 / 0.6)}
+    files = {'--suppress': (bench.file('filter.abbreviations', inputs.abbreviations(200)), 1.2),
+             '--tailor': (bench.file('filter.pairs', inputs.pairs(200)), 1.3)}
     for option, (file, target) in files.items():
         line = Line(f'`breaks {option}` over `breaks`, sentence.rules, prose, '
-                    f'{bench.sizes[-1] // 1_000_000} M', target=f'{target:.2f} times')
+                    f'{bench.sizes[-1] // 1_000_000} M', target=f'{target} times')
         line.time = bench.lacking(['breaks', option, file] + props + [path, bench.tiny()])
         if not line.time:
             behind = props + [path, inputs.make_text(bench.folder, 'prose', bench.sizes[-1])]
@@ -460,9 +474,7 @@ def nexts(bench):
                     line.verdict = 'met' if icu / ours >= 3 else f'{icu / ours:.2f} times'
             yield line
     if ratios:
-        mean = math.exp(sum(map(math.log, ratios)) / len(ratios))
-        yield Line('the geometric mean of these', ratio=f'{mean:.2f}', target='4 times ICU',
-                   verdict='met' if mean >= 4 else f'{mean:.2f} times')
+        yield mean_of(ratios, 4)
     yield from far(bench)
 
 

@@ -5,4 +5,5 @@ pub mod Saying
 pub mod Performing
 pub mod Reading
 pub mod Laws
+pub mod LineEnds
 pub mod inner

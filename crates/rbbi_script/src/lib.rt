@@ -23,4 +23,4 @@ pub use laws::one_script;
 pub use performing::{perform, perform_by};
 pub use reader::{ScriptErr, is_skipped, read_script};
 pub use saying::{Said, say};
-pub use statuses::{say_bound, say_list};
+pub use statuses::{LineEnd, say_bound, say_list};

@@ -1,12 +1,15 @@
 //! The lines of statuses and of boundaries.
+ghost use Rattle.std.specs.Prelude.{◌≡◌, ◌++◌, decimal, IfOk};
 ghost use Rattle.std.specs.List.{flat_map};
 ghost use Rattle.rbbi_model.specs.Answers.{AllOf};
 ghost use Rattle.rbbi_model.specs.Lines.{joined_statuses, boundary_line, reply_lines};
 ghost use Rattle.rbbi_text.specs.Appending.{Appends};
+ghost use Rattle.rbbi_script.specs.LineEnds.{line_end};
 ghost use Rattle.rbbi_script.specs.inner.Statuses.{next_status};
 
-use rbbi_text::{append, append_number};
-use std::alloc::AllocError;
+use rbbi_text::{Counter, append, append_number};
+use std::alloc::{AllocError, Global};
+use std::marker::Model;
 
 /// Appends a comma and a status in decimal, or a prefix of that where memory runs out.
 fn say_next(status: u32, reply: &mut Vec<u8>) -> Result<(), AllocError>
@@ -55,4 +58,40 @@ pub fn say_bound(at: u32, list: &[u32], reply: &mut Vec<u8>) -> Result<(), Alloc
     append_number(at, reply)?;
     append(b" ", reply)?;
     say_list(list, reply)
+}
+
+/// What follows the place in the line of a boundary: a space, its statuses with commas between, and
+/// LF. It is made once for a list that many boundaries have. Contracts see its bytes.
+#[derive(Drop)]
+pub struct LineEnd {
+    bytes: Vec<u8>,
+}
+
+impl Model for LineEnd {
+    ghost use Rattle.std.specs.Prelude.{List, ℕ};
+
+    ghost Value = { List ℕ };
+
+    ghost view = { λ end. end.bytes.items };
+}
+
+impl LineEnd {
+    /// What follows the place in the line of a boundary with these statuses.
+    pub fn new(alloc: Global, list: &[u32]) -> Result<LineEnd, AllocError>
+        ensures { IfOk result (λ end. end ≡ line_end list.now) }
+    {
+        let mut bytes = Vec::new(alloc);
+        append(b" ", &mut bytes)?;
+        say_list(list, &mut bytes)?;
+        Ok(LineEnd { bytes })
+    }
+
+    /// Appends the line of a boundary at a place. After the refusal a prefix of the line was
+    /// appended.
+    pub fn say(&self, at: &Counter, reply: &mut Vec<u8>) -> Result<(), AllocError>
+        ensures { Appends reply.old.items (decimal at.now ++ self.now) result reply.new.items }
+    {
+        at.append(reply)?;
+        append(&self.bytes, reply)
+    }
 }

@@ -7,3 +7,5 @@ pub mod Pushed
 pub mod Appended
 pub mod MilestoneLemmas
 pub mod Even
+mod Digits
+mod AsciiTexts

@@ -12,3 +12,4 @@ pub mod Milestones
 pub mod Weighed
 pub mod Indexes
 pub mod inner
+pub mod Forms

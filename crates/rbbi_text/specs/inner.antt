@@ -2,3 +2,4 @@
 pub mod Cuts
 pub mod LineValues
 pub mod Fits
+pub mod Digits

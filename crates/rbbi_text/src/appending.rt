@@ -6,6 +6,7 @@ use itoa::Buffer;
 use std::alloc::AllocError;
 
 /// Appends bytes. Where memory runs out, a prefix of them was appended.
+#[inline]
 pub fn append(bytes: &[u8], out: &mut Vec<u8>) -> Result<(), AllocError>
     ensures { Appends out.old.items bytes.now result out.new.items }
 {

@@ -5,9 +5,12 @@
 #![tactic(auto)]
 
 mod appending;
+mod ascii;
 mod bytes;
 mod chars;
+mod counter;
 mod error;
+mod file_text;
 mod line_parts;
 mod line_values;
 mod measure;
@@ -23,9 +26,12 @@ mod units;
 mod word;
 
 pub use appending::{append, append_number};
+pub use ascii::AsciiText;
 pub use bytes::{MOST_BYTES, count_characters, utf8_text, without_mark};
 pub use chars::{Chars, EditText};
+pub use counter::Counter;
 pub use error::{EditErr, LinesErr, RawErr, TextErr};
+pub use file_text::{FileText, Form};
 pub use line_parts::{before_byte, is_blank, is_skipped, place_or_len, trim, trim_start};
 pub use line_values::{Line, LineValue, Values, read_lines};
 pub use numbers::{decimal, hexadecimal, number_of_characters};
@@ -34,5 +40,5 @@ pub use plain::{PlainText, check_edit};
 pub use raw::Raw;
 pub use rbbi_model::Unit;
 pub use steps::Steps;
-pub use units::{Index, UnitText};
+pub use units::{FlatText, Index, UnitText};
 pub use word::{Word, push_character};

@@ -1,5 +1,5 @@
 //! A text in one flat list.
-ghost use Rattle.std.specs.Prelude.{◌≡◌, ◌+◌, ◌^◌, ◌<◌, ◌≤◌, IfOk, OnOk, OnErr, MatchOption};
+ghost use Rattle.std.specs.Prelude.{◌≡◌, ◌+◌, ◌++◌, ◌^◌, ◌<◌, ◌≤◌, IfOk, OnOk, OnErr, MatchOption};
 ghost use Rattle.std.specs.Prelude.{length, chars};
 ghost use Rattle.std.specs.List.{splice};
 ghost use Rattle.rbbi_model.specs.Words.{most_characters};
@@ -8,8 +8,11 @@ ghost use Rattle.rbbi_text.specs.Texts.{IsShortText};
 ghost use Rattle.rbbi_text.specs.Answers.{TakesText, ReadsText, ChecksEdit};
 ghost use Rattle.rbbi_model.specs.Units.{offset_of};
 
+use crate::ascii::is_ascii;
 use crate::measure::{fit_in, taken};
-use crate::{Chars, EditErr, EditText, Index, Raw, RawErr, Steps, TextErr, Unit, UnitText};
+use crate::{
+    Chars, EditErr, EditText, FlatText, Index, Raw, RawErr, Steps, TextErr, Unit, UnitText,
+};
 use std::alloc::{AllocError, Global};
 use std::fmt;
 use std::marker::Model;
@@ -45,19 +48,69 @@ impl fmt::Debug for PlainText {
     }
 }
 
+/// So many bytes are decoded at once where all are ASCII, and otherwise so many characters are
+/// before that is asked again.
+const BLOCK: usize = 64;
+
+/// Appends ASCII bytes as characters.
+fn push_ascii(items: &mut Vec<char>, block: &[u8]) -> Result<(), AllocError>
+    requires { length block.now ≤ 64 }
+    ensures { OnOk result (items.new.items ≡ items.old.items ++ block.now) }
+{
+    let mut characters = ['\0'; BLOCK];
+    for k in 0..block.len() {
+        characters[k] = block[k] as char;
+    }
+    items.extend_from_slice(&characters[..block.len()])
+}
+
+/// Appends the first characters of a text, and gives what follows them.
+fn push_some<'a>(items: &mut Vec<char>, text: &'a str) -> Result<&'a str, AllocError>
+    requires { 0 < length text.now }
+    ensures { IfOk result (λ rest. (items.new.items ++ chars rest.now
+        ≡ items.old.items ++ chars text.now) × (length rest.now < length text.now)) }
+{
+    let mut left = text.chars();
+    for _turn in 0..BLOCK {
+        match left.next() {
+            Some(c) => items.push(c)?,
+            None => return Ok(left.as_str()),
+        }
+    }
+    Ok(left.as_str())
+}
+
+/// The same, by a block where it is ASCII.
+fn push_front<'a>(items: &mut Vec<char>, text: &'a str) -> Result<&'a str, AllocError>
+    requires { 0 < length text.now }
+    ensures { IfOk result (λ rest. (items.new.items ++ chars rest.now
+        ≡ items.old.items ++ chars text.now) × (length rest.now < length text.now)) }
+{
+    let bytes = text.as_bytes();
+    if bytes.len() >= BLOCK {
+        let block = &bytes[..BLOCK];
+        if is_ascii(block) {
+            push_ascii(items, block)?;
+            return Ok(&text[BLOCK..]);
+        }
+    }
+    push_some(items, text)
+}
+
 /// The characters of a string, or nothing where they are more than a text may have.
 fn decoded(alloc: Global, text: &str) -> Result<Option<Vec<char>>, AllocError>
     ensures { IfOk result (λ found. MatchOption found
         (most_characters < length (chars text.now))
         (λ items. (items.items ≡ chars text.now) × IsShortText items.items)) }
 {
-    let room = text.len().min(MOST_CHARACTERS);
+    let room = text.len().min(MOST_CHARACTERS + BLOCK);
     let mut items = Vec::with_capacity(alloc, room)?;
-    for c in text.chars() {
-        if items.len() == MOST_CHARACTERS {
+    let mut rest = text;
+    while !rest.is_empty() {
+        rest = push_front(&mut items, rest)?;
+        if items.len() > MOST_CHARACTERS {
             return Ok(None);
         }
-        items.push(c)?;
     }
     Ok(Some(items))
 }
@@ -172,5 +225,11 @@ impl UnitText for PlainText {
             at: fit.count as u32,
             whole: fit.units == o,
         }
+    }
+}
+
+impl FlatText for PlainText {
+    fn units_between(&self, unit: Unit, from: u32, to: u32) -> u32 {
+        PlainText::units_between(self, unit, from, to)
     }
 }

@@ -1,9 +1,13 @@
 //! The bytes of a file.
-ghost use Rattle.std.specs.Prelude.{◌≡◌, ◌+◌, ◌≤◌, length, IsUtf8, MatchResult};
+ghost use Rattle.std.specs.Prelude.{◌≡◌, ◌+◌, ◌≤◌, length, IsUtf8, IfOk, IfSome, MatchResult};
+ghost use Rattle.std.specs.Str.{IsAscii};
+ghost use Rattle.rbbi_model.specs.Words.{most_characters};
 ghost use Rattle.rbbi_text.specs.Bytes.{most_bytes};
 ghost use Rattle.rbbi_text.specs.Answers.{ReadsText};
 
+use crate::ascii::AsciiText;
 use crate::{RawErr, Steps, utf8_text};
+use std::alloc::{AllocError, Global};
 use std::fmt;
 use std::marker::Model;
 use std::sync::ledger::Ledger;
@@ -56,5 +60,14 @@ impl Raw {
             Ok(text) => Ok(text),
             Err(at) => Err(RawErr::NotUtf8(at)),
         }
+    }
+
+    /// The text that the bytes are where all are ASCII, and no more than a text may have. It counts
+    /// nothing.
+    pub(crate) fn ascii(&self, alloc: Global) -> Result<Option<AsciiText>, AllocError>
+        ensures { IfOk result (λ found. IfSome found (λ text. (text ≡ self.now)
+            × IsAscii text × (length text ≤ most_characters))) }
+    {
+        AsciiText::from_bytes(alloc, &self.bytes)
     }
 }

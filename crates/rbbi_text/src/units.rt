@@ -1,9 +1,9 @@
-//! Texts whose places are found in other units than characters.
-ghost use Rattle.std.specs.Prelude.{◌≡◌, ◌≤◌, length};
+//! Texts whose places are found, or counted on, in other units than characters.
+ghost use Rattle.std.specs.Prelude.{◌≡◌, ◌+◌, ◌^◌, ◌<◌, ◌≤◌, length};
 ghost use Rattle.rbbi_model.specs.Units.{offset_of};
 ghost use Rattle.rbbi_text.specs.Indexes.{IsIndex};
 
-use crate::{EditText, Unit};
+use crate::{Chars, EditText, Unit};
 
 /// The place at an offset, or the last one before it.
 #[derive(Clone, Copy, Debug, PartialEq, Eq)]
@@ -31,4 +31,16 @@ pub trait UnitText: EditText {
     fn index(&self, unit: Unit, o: u32) -> Index
         requires { let x = Self.characters self.now in o ≤ offset_of unit x (length x) }
         ensures { IsIndex unit (Self.characters self.now) o result };
+}
+
+/// A text in one flat list, which is gone through from its start to its end.
+pub trait FlatText: Chars {
+    /// How much of a unit the characters from one place to another take together. It gives none of
+    /// them, and goes over them at most once.
+    fn units_between(&self, unit: Unit, from: u32, to: u32) -> u32
+        requires forward { from ≤ to }
+        requires within { to ≤ length (Self.characters self.now) }
+        ensures sum { offset_of unit (Self.characters self.now) from + result
+            ≡ offset_of unit (Self.characters self.now) to }
+        ensures small { offset_of unit (Self.characters self.now) to < 2 ^ 32 };
 }
