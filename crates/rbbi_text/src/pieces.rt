@@ -39,7 +39,7 @@ pub struct Pieces {
     starts: Vec<u32>,
     /// The number of characters.
     len: u32,
-    /// Where each 64th piece starts in the unit for which the text is ready.
+    /// Where each 8th piece starts in the unit for which the text is ready.
     milestones: Milestones,
     /// Where the memory of further pieces comes from.
     alloc: Global,

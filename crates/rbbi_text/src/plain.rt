@@ -8,7 +8,7 @@ ghost use Rattle.rbbi_text.specs.Texts.{IsShortText};
 ghost use Rattle.rbbi_text.specs.Answers.{TakesText, ReadsText, ChecksEdit};
 ghost use Rattle.rbbi_model.specs.Units.{offset_of};
 
-use crate::measure::{fit_in, taken};
+use crate::measure::{fit_characters, taken};
 use crate::{Chars, EditErr, EditText, Index, Raw, RawErr, Steps, TextErr, Unit, UnitText};
 use std::alloc::{AllocError, Global};
 use std::fmt;
@@ -167,7 +167,7 @@ impl UnitText for PlainText {
     fn make_ready(&mut self, _unit: Unit) {}
 
     fn index(&self, unit: Unit, o: u32) -> Index {
-        let fit = fit_in(&self.items, unit, o);
+        let fit = fit_characters(&self.items, unit, o);
         Index {
             at: fit.count as u32,
             whole: fit.units == o,
