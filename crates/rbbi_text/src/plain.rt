@@ -9,7 +9,9 @@ ghost use Rattle.rbbi_text.specs.Answers.{TakesText, ReadsText, ChecksEdit};
 ghost use Rattle.rbbi_model.specs.Units.{offset_of};
 
 use crate::measure::{fit_characters, taken};
-use crate::{Chars, EditErr, EditText, Index, Raw, RawErr, Steps, TextErr, Unit, UnitText};
+use crate::{
+    Chars, EditErr, EditText, Excerpt, Index, Raw, RawErr, Steps, TextErr, Unit, UnitText,
+};
 use std::alloc::{AllocError, Global};
 use std::fmt;
 use std::marker::Model;
@@ -112,6 +114,13 @@ impl Chars for PlainText {
     fn char_at<L: Ledger>(&self, i: u32, steps: &mut Steps<L>) -> char {
         steps.tick();
         self.items[i as usize]
+    }
+
+    fn excerpt(&self, _i: u32) -> Excerpt<'_> {
+        Excerpt {
+            from: 0,
+            items: &self.items,
+        }
     }
 }
 
