@@ -17,7 +17,7 @@ use crate::search::search;
 use crate::search_back::search_back;
 use crate::{Entry, Run};
 use rbbi_table::{FrontPlaces, Table};
-use rbbi_text::{Chars, Steps};
+use rbbi_text::{Chars, Near, Steps};
 use std::alloc::{AllocError, Global};
 use std::marker::Model;
 use std::sync::ledger::Ledger;
@@ -173,6 +173,28 @@ impl Cache {
         ensures more { steps.old ≤ steps.new }
         ensures cost { steps.new ≤ steps.old + forward_cost table.now (T.characters text.now) i }
     {
+        let near = Near::new(text, i);
+        self.find_past_near(table, &near, i, steps)
+    }
+
+    /// As `find_past`, with the characters around `i` at hand.
+    fn find_past_near<T: Chars, L: Ledger>(
+        &mut self,
+        table: &Table,
+        text: &T,
+        i: u32,
+        steps: &mut Steps<L>,
+    ) -> Entry
+        requires fit { self.old.slashes ≡ table.now.slashes }
+        requires are_true { AreTrueRuns table.now (T.characters text.now) self.old.runs }
+        requires within { i < length (T.characters text.now) }
+        requires small { i < most_characters }
+        ensures kept { KeepsTrue table.now (T.characters text.now)
+            (λ run. IsShownAfter run i result) self.old.runs self.new.runs }
+        ensures fit { self.new.slashes ≡ self.old.slashes }
+        ensures more { steps.old ≤ steps.new }
+        ensures cost { steps.new ≤ steps.old + forward_cost table.now (T.characters text.now) i }
+    {
         let Some(known) = find_nearest(self.runs.as_slice(), i) else {
             let anchor = anchor_before(table, text, 0, i, steps);
             return self.find_from(table, text, anchor, i, steps);
@@ -257,6 +279,31 @@ impl Cache {
 
     /// Searches for the last boundary before `i`, and keeps what it finds.
     fn find_back<T: Chars, L: Ledger>(
+        &mut self,
+        table: &Table,
+        text: &T,
+        i: u32,
+        steps: &mut Steps<L>,
+    ) -> Entry
+        requires fit { self.old.slashes ≡ table.now.slashes }
+        requires are_true { AreTrueRuns table.now (T.characters text.now) self.old.runs }
+        requires some { 0 < i }
+        requires within { i ≤ length (T.characters text.now) }
+        requires small { i ≤ most_characters }
+        ensures answer { IsLastBefore table.now (T.characters text.now) i result }
+        ensures kept { KeepsBack table.now (T.characters text.now) i result
+            self.old.runs self.new.runs }
+        ensures are_true { AreTrueRuns table.now (T.characters text.now) self.new.runs }
+        ensures fit { self.new.slashes ≡ self.old.slashes }
+        ensures more { steps.old ≤ steps.new }
+        ensures cost { steps.new ≤ steps.old + back_cost table.now (T.characters text.now) i }
+    {
+        let near = Near::new(text, i - 1);
+        self.find_back_near(table, &near, i, steps)
+    }
+
+    /// As `find_back`, with the characters before `i` at hand.
+    fn find_back_near<T: Chars, L: Ledger>(
         &mut self,
         table: &Table,
         text: &T,

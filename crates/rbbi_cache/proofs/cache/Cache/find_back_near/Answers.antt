@@ -4,7 +4,7 @@ use Rattle.rbbi_cache.specs.Shown.{IsShownBefore}
 use Rattle.rbbi_cache.proofs.Keeping.{keeps_added}
 use Rattle.rbbi_cache.proofs.RightPart.{entries_rise}
 use Rattle.rbbi_cache.proofs.Answering.{is_last_before}
-use Rattle.rbbi_cache.proofs.cache.Cache.find_back.Goals as goal
+use Rattle.rbbi_cache.proofs.cache.Cache.find_back_near.Goals as goal
 
 pub add-requires : goal.add-requires
 add-requires g c =
