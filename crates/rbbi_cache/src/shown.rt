@@ -62,9 +62,15 @@ impl Run {
         requires rising { IsRising (map (λ entry. entry.at) self.now.entries) }
         requires small { i < most_characters }
         requires anchor { self.now.anchor ≤ most_characters }
+        requires behind { AllByRecursion (λ entry. self.now.anchor ≤ entry.at) self.now.entries }
         ensures { MatchOption result
             ((a : ℕ) → ¬ ShowsAfter self.now i a) (IsShownAfter self.now i) }
     {
+        // Of many runs that are asked, this one lies after the place.
+        let anchor = self.anchor();
+        if i < anchor {
+            return None;
+        }
         let entries = self.entries();
         let k = count_up_to(entries, i);
         if k == entries.len() {
@@ -83,11 +89,16 @@ impl Run {
     pub(crate) fn shown_before(&self, len: u32, i: u32) -> Option<Entry>
         requires rising { IsRising (map (λ entry. entry.at) self.now.entries) }
         requires within { AllByRecursion (λ entry. entry.at ≤ len) self.now.entries }
+        requires behind { AllByRecursion (λ entry. self.now.anchor ≤ entry.at) self.now.entries }
         requires some { 0 < i }
         ensures { (x : List ℕ) → len ≡ length x →
             MatchOption result
             ((a : ℕ) → ¬ ShowsBefore x self.now i a) (IsShownBefore x self.now i) }
     {
+        let anchor = self.anchor();
+        if i <= anchor {
+            return None;
+        }
         let entries = self.entries();
         let k = count_up_to(entries, i - 1);
         if k == 0 {
@@ -108,7 +119,7 @@ impl Run {
         ensures { MatchOption result ⊤ (λ entry. GoesOnFrom i entry self.now) }
     {
         let entries = self.entries();
-        if entries.is_empty() {
+        if self.anchor() > i || entries.is_empty() {
             return None;
         }
         let entry = entries[entries.len() - 1];
