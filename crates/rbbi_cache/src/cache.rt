@@ -7,12 +7,13 @@ ghost use Rattle.rbbi_model.specs.Runs.{ShowsAfter, ShowsBefore};
 ghost use Rattle.rbbi_cache.specs.Kept.{AreTrueRuns, IsFirstAfter, IsLastBefore, SomeRun, Keeps};
 ghost use Rattle.rbbi_cache.specs.Kept.{KeepsBack};
 ghost use Rattle.rbbi_cache.specs.Shown.{IsShownAfter};
-ghost use Rattle.rbbi_cache.specs.inner.Lists.{HasAt, GoesOnFrom};
+ghost use Rattle.rbbi_cache.specs.inner.Lists.{IsOrdered, HasAt, GoesOnFrom};
+ghost use Rattle.std.specs.List.{AllByRecursion};
 ghost use Rattle.rbbi_cache.specs.inner.Ready.{KeepsTrue};
 
 use crate::anchors::anchor_before;
 use crate::run_list::RunList;
-use crate::runs::{Shown, find_after, find_before, find_nearest};
+use crate::runs::{Shown, find_after, find_before, find_nearest, quiet_to};
 use crate::search::search;
 use crate::search_back::search_back;
 use crate::{Entry, Run};
@@ -39,14 +40,21 @@ pub struct Cache {
     pub(crate) spare: Run,
     /// Scratch space of searches.
     pub(crate) marks: FrontPlaces,
+    /// From this place up to before the next one no run but the first shows a boundary, so that
+    /// the others needn't be asked.
+    pub(crate) quiet_from: u32,
+    pub(crate) quiet_to: u32,
 }
 
 impl Model for Cache {
     ghost use Rattle.rbbi_cache.specs.Kept.{KeptRuns};
+    ghost use Rattle.rbbi_cache.specs.inner.Quiet.{AreQuiet};
 
     ghost Value = { KeptRuns };
 
     ghost view = { λ cache. record { runs = cache.runs; slashes = cache.marks } };
+
+    ghost invariant = { λ cache. AreQuiet cache.quiet_from cache.quiet_to cache.runs };
 }
 
 impl Cache {
@@ -59,6 +67,8 @@ impl Cache {
             next: RunList::empty(alloc)?,
             spare: Run::empty(alloc)?,
             marks: FrontPlaces::new(alloc, table)?,
+            quiet_from: 0,
+            quiet_to: 0,
         })
     }
 
@@ -104,7 +114,8 @@ impl Cache {
         if i >= text.len() {
             return None;
         }
-        if let Some(shown) = find_after(self.runs.as_slice(), i) {
+        if let Some(shown) = self.find_shown(i) {
+            self.quiet_to = 0;
             self.runs.move_to_front(shown.run);
             return Some(shown.entry);
         }
@@ -143,6 +154,7 @@ impl Cache {
         }
         let len = text.len();
         if let Some(shown) = find_before(self.runs.as_slice(), len, i) {
+            self.quiet_to = 0;
             self.runs.move_to_front(shown.run);
             return Some(shown.entry);
         }
@@ -153,6 +165,38 @@ impl Cache {
             return Some(self.find_past(table, text, len - 1, steps));
         }
         Some(self.find_back(table, text, i, steps))
+    }
+
+    /// As `find_after` for the kept runs. If no other one can show it, only the first is asked.
+    fn find_shown(&self, i: u32) -> Option<Shown>
+        requires ordered { AllByRecursion (IsOrdered most_characters) self.now.runs }
+        requires small { i < most_characters }
+        ensures { MatchOption result
+            (AllByRecursion (λ run. (a : ℕ) → ¬ ShowsAfter run i a) self.now.runs)
+            (λ shown. HasAt self.now.runs shown.run (λ run. IsShownAfter run i shown.entry)) }
+    {
+        let runs = self.runs.as_slice();
+        if i < self.quiet_from || self.quiet_to <= i || runs.is_empty() {
+            return find_after(runs, i);
+        }
+        find_after(&runs[..1], i)
+    }
+
+    /// Notes how far from `i` on no run but the first shows a boundary, unless that is known.
+    fn mark_quiet(&mut self, i: u32)
+        requires { AllByRecursion (IsOrdered most_characters) self.old.runs }
+        ensures { self.new ≡ self.old }
+    {
+        if self.quiet_from <= i && i < self.quiet_to {
+            return;
+        }
+        let runs = self.runs.as_slice();
+        if runs.is_empty() {
+            return;
+        }
+        let to = quiet_to(&runs[1..], i);
+        self.quiet_from = i;
+        self.quiet_to = to;
     }
 
     /// Searches for the first boundary past `i`, and keeps what it finds.
@@ -230,6 +274,7 @@ impl Cache {
         table.valid();
         let spare = &mut self.spare;
         let entry = search(table, text, anchor, i, spare, &mut self.marks, steps);
+        self.quiet_to = 0;
         self.runs.add(spare);
         entry
     }
@@ -257,6 +302,8 @@ impl Cache {
             (anchor_below table.now (T.characters text.now) i) i }
     {
         table.valid();
+        // That the text is short is known of its length.
+        let _short = text.len();
         let spare = &mut self.spare;
         let marks = &mut self.marks;
         let (entry, is_kept) = self.runs.go_on(
@@ -269,11 +316,17 @@ impl Cache {
             marks,
             steps,
         );
-        if is_kept {
-            self.runs.move_to_front(known.run);
-        } else {
+        if !is_kept {
+            self.quiet_to = 0;
             self.runs.add(spare);
+            return entry;
         }
+        if known.run > 0 {
+            self.quiet_to = 0;
+            self.runs.move_to_front(known.run);
+            return entry;
+        }
+        self.mark_quiet(entry.at);
         entry
     }
 
@@ -328,6 +381,7 @@ impl Cache {
         let Some(entry) = search_back(table, text, i, spare, &mut self.marks, steps) else {
             return START;
         };
+        self.quiet_to = 0;
         self.runs.add(spare);
         entry
     }

@@ -7,6 +7,7 @@ ghost use Rattle.rbbi_model.specs.Words.{most_characters};
 ghost use Rattle.rbbi_model.specs.Runs.{low, ShowsAfter, ShowsBefore};
 ghost use Rattle.rbbi_cache.specs.inner.Lists.{GoesOnFrom};
 ghost use Rattle.rbbi_cache.specs.inner.Shown.{AreUpTo};
+ghost use Rattle.rbbi_cache.specs.inner.Quiet.{IsQuiet};
 ghost use Rattle.rbbi_cache.specs.Shown.{IsShownAfter, IsShownBefore};
 
 use crate::scan::low;
@@ -112,6 +113,26 @@ impl Run {
             return Some(entry);
         }
         None
+    }
+
+    /// Up to before which place, at most the one given, the run shows no boundary from `i` on.
+    pub(crate) fn quiet_to(&self, i: u32, to: u32) -> u32
+        requires rising { IsRising (map (λ entry. entry.at) self.now.entries) }
+        requires behind { AllByRecursion (λ entry. self.now.anchor ≤ entry.at) self.now.entries }
+        ensures quiet { IsQuiet i result self.now }
+        ensures at_most { result ≤ to }
+    {
+        let anchor = self.anchor();
+        if i < anchor {
+            let nearer = anchor.min(to);
+            return nearer;
+        }
+        let entries = self.entries();
+        let k = count_up_to(entries, i);
+        if k < entries.len() {
+            return 0;
+        }
+        to
     }
 
     /// Its last entry, where that isn't past `i`.
