@@ -11,5 +11,6 @@ pub mod Cuts
 pub mod Milestones
 pub mod Weighed
 pub mod Indexes
+pub mod Excerpts
 pub mod inner
 pub mod Forms
