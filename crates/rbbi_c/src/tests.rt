@@ -1,9 +1,12 @@
 //! The calls as C makes them. `bin/check-c` makes them from C.
 use crate::codes;
 use crate::faults::Fault;
+use crate::forking::rbbi_c_fork;
 use crate::handle::Handle;
 use crate::named::rbbi_c_table_named;
-use crate::questions::{rbbi_c_following, rbbi_c_is_boundary, rbbi_c_next, rbbi_c_status};
+use crate::questions::{
+    rbbi_c_current, rbbi_c_following, rbbi_c_is_boundary, rbbi_c_next, rbbi_c_status,
+};
 use crate::ranges::{rbbi_c_boundaries, rbbi_c_boundaries_before, rbbi_c_part, rbbi_c_segment};
 use crate::rules::{rbbi_c_properties, rbbi_c_properties_add, rbbi_c_table_compile};
 use crate::segment::Segment;
@@ -93,6 +96,17 @@ fn check_questions(rt: &impl Abort, memory: Memory, session: &mut Handle) {
     check_statuses(rt, memory, session);
     let code = rbbi_c_following(memory, session, 3, &mut number);
     assert!(rt; code == codes::OK && number == 4);
+}
+
+/// Forks the session, whose cursor is at 4.
+fn check_fork(rt: &HostRuntime, session: &mut Handle) {
+    let mut copy = Handle::closed();
+    let code = rbbi_c_fork(rt.memory(), session, &mut copy);
+    assert!(rt; code == codes::OK);
+    let mut number = 99;
+    let code = rbbi_c_current(rt.memory(), &mut copy, &mut number);
+    assert!(rt; code == codes::OK && number == 4);
+    done(rt, copy);
 }
 
 /// Asks for the statuses there.
@@ -191,6 +205,7 @@ fn a_session_outlives_its_tables_handle(rt: HostRuntime) {
     rbbi_c_close(memory, &mut table);
     done(&rt, table);
     check_questions(&rt, memory, &mut session);
+    check_fork(&rt, &mut session);
     check_boundaries(&rt, memory, &mut session);
     check_segment(&rt, memory, &mut session);
     check_utf16(&rt, memory, &mut session);
