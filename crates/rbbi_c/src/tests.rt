@@ -99,14 +99,11 @@ fn check_questions(rt: &impl Abort, memory: Memory, session: &mut Handle) {
 }
 
 /// Forks the session, whose cursor is at 4.
-fn check_fork(rt: &HostRuntime, session: &mut Handle) {
-    let mut copy = Handle::closed();
-    let code = rbbi_c_fork(rt.memory(), session, &mut copy);
-    assert!(rt; code == codes::OK);
+fn check_fork(rt: &impl Abort, memory: Memory, session: &mut Handle, copy: &mut Handle) {
+    assert!(rt; rbbi_c_fork(memory, session, copy) == codes::OK);
     let mut number = 99;
-    let code = rbbi_c_current(rt.memory(), &mut copy, &mut number);
+    let code = rbbi_c_current(memory, copy, &mut number);
     assert!(rt; code == codes::OK && number == 4);
-    done(rt, copy);
 }
 
 /// Asks for the statuses there.
@@ -205,7 +202,9 @@ fn a_session_outlives_its_tables_handle(rt: HostRuntime) {
     rbbi_c_close(memory, &mut table);
     done(&rt, table);
     check_questions(&rt, memory, &mut session);
-    check_fork(&rt, &mut session);
+    let mut copy = Handle::closed();
+    check_fork(&rt, memory, &mut session, &mut copy);
+    done(&rt, copy);
     check_boundaries(&rt, memory, &mut session);
     check_segment(&rt, memory, &mut session);
     check_utf16(&rt, memory, &mut session);
