@@ -152,9 +152,15 @@ static void compare_change(const listed *old, const listed *new, uint32_t at, ui
 
 static int edit(rbbi_session *session, uint32_t at, uint32_t remove, const char *insert) {
     rbbi_change change = {7, 7, 7};
-    listed old = list(session);
+    rbbi_session before = RBBI_INIT;
+    uint32_t cursor, forked;
+    must(rbbi_session_fork(session, &before), "fork");
+    must(rbbi_session_current(session, &cursor), "current");
+    must(rbbi_session_current(&before, &forked), "current");
+    same(cursor == forked, "the cursor of a fork");
     int answer = rbbi_session_replace_changed(session, at, remove, insert, strlen(insert), &change);
-    listed new = list(session);
+    listed old = list(&before), new = list(session);
+    rbbi_session_close(&before);
     if (answer == RBBI_OK) {
         compare_change(&old, &new, at, remove, change);
     } else {

@@ -60,7 +60,7 @@ int main(void) {
         left = ++most;
         rbbi_files files = RBBI_INIT;
         rbbi_table table = RBBI_INIT, loaded = RBBI_INIT, other = RBBI_INIT;
-        rbbi_session session = RBBI_INIT;
+        rbbi_session session = RBBI_INIT, copy = RBBI_INIT;
         DONE(rbbi_files_open(&files));
         DONE(rbbi_files_add(&files, "X", "0021 ; Y\n", 9, NULL));
         DONE(rbbi_table_compile(&table, &files, rules, strlen(rules), 0, NULL));
@@ -77,6 +77,9 @@ int main(void) {
             DONE(rbbi_session_replace(&session, 1000, 5, insert, sizeof insert));
         }
         wrong |= place_of(&session, 5) != 1000 || place_of(&session, 1000) != 3000;
+        DONE(rbbi_session_fork(&session, &copy));
+        wrong |= place_of(&copy, 5) != 1000 || place_of(&copy, 1000) != 3000;
+        rbbi_session_close(&copy);
         rbbi_change change = {0, 0, 0};
         DONE(rbbi_session_replace_changed(&session, 1500, 500, insert, 500, &change));
         wrong |= change.from != 1500 || change.old_to != 2000 || change.new_to != 2000;

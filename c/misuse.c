@@ -147,7 +147,7 @@ int main(void) {
 
     /* UTF-16 */
     const uint16_t pair[] = {'x', 0xd83d, 0xde00, 'y'}, low[] = {'x', 0xdc00}, high[] = {0xd83d, 'y'};
-    rbbi_session third = RBBI_INIT;
+    rbbi_session third = RBBI_INIT, fourth = RBBI_INIT;
     IS(rbbi_session_replace_utf16(&session, 0, 2, low, 2, &told), RBBI_LONE);
     IS(told == 1, 1);
     IS(rbbi_session_replace_utf16(&session, 0, 2, NULL, 1, &told), RBBI_NULL);
@@ -163,7 +163,24 @@ int main(void) {
     IS(rbbi_session_open_utf16(&third, &table, pair, 4, RBBI_CHARS, NULL), RBBI_OK);
     IS(rbbi_session_length(&third, &told), RBBI_OK);
     IS(told == 3, 1);
+
+    /* a second session over a copy of the text */
+    IS(rbbi_session_fork(&third, NULL), RBBI_NULL);
+    IS(rbbi_session_fork(NULL, &fourth), RBBI_NULL);
+    IS(rbbi_session_fork(&second, &session), RBBI_HANDLE);
+    IS(rbbi_session_fork((rbbi_session *)&table, &fourth), RBBI_HANDLE);
+    IS(rbbi_session_fork(&third, &session), RBBI_HANDLE);
+    IS(rbbi_session_following(&third, 0, &told), RBBI_OK);
+    IS(rbbi_session_fork(&third, &fourth), RBBI_OK);
+    IS(rbbi_session_current(&fourth, &resume), RBBI_OK);
+    IS(told == 1 && resume == 1, 1);
+    IS(rbbi_session_replace(&fourth, 0, 1, "", 0), RBBI_OK);
+    IS(rbbi_session_length(&third, &told), RBBI_OK);
+    IS(rbbi_session_length(&fourth, &resume), RBBI_OK);
+    IS(told == 3 && resume == 2, 1);
     rbbi_session_close(&third);
+    IS(rbbi_session_next(&fourth, &told), RBBI_OK);
+    rbbi_session_close(&fourth);
     rbbi_table_close(&table);
     rbbi_session_close(&session);
     rbbi_session_close(&session);

@@ -35,6 +35,7 @@ uint32_t rbbi_c_table_write(rbbi_table *, uint8_t *, size_t, size_t *);
 uint32_t rbbi_c_open(rbbi_table *, const uint8_t *, size_t, uint32_t, rbbi_session *);
 uint32_t rbbi_c_open_utf16(rbbi_table *, const uint16_t *, size_t, uint32_t, rbbi_session *,
                            uint32_t *);
+uint32_t rbbi_c_fork(rbbi_session *, rbbi_session *);
 uint32_t rbbi_c_replace(rbbi_session *, uint32_t, uint32_t, const uint8_t *, size_t);
 uint32_t rbbi_c_replace_utf16(rbbi_session *, uint32_t, uint32_t, const uint16_t *, size_t,
                               uint32_t *);
@@ -258,6 +259,10 @@ int rbbi_session_open_utf16(rbbi_session *session, rbbi_table *table, const uint
         rbbi_c_close(&own);
     }
     return answer;
+}
+
+int rbbi_session_fork(rbbi_session *session, rbbi_session *copy) {
+    return session && copy ? (int)rbbi_c_fork(session, copy) : RBBI_NULL;
 }
 
 void rbbi_session_close(rbbi_session *session) {

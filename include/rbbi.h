@@ -33,8 +33,8 @@
  * leaves every handle and every number as it was, with three exceptions: RBBI_FAULT writes the
  * fault, RBBI_LONE the number of the surrogate, and RBBI_ROOM the length and as much as fits. No
  * call ends the process, writes or reads a file, or waits, but for the turns above. Opening,
- * editing, compiling, loading, writing and rbbi_session_text allocate memory. Questions don't; that
- * isn't proved, but seen by reading the code.
+ * forking, editing, compiling, loading, writing and rbbi_session_text allocate memory. Questions
+ * don't; that isn't proved, but seen by reading the code.
  */
 #ifndef RBBI_H
 #define RBBI_H
@@ -47,7 +47,7 @@ extern "C" {
 #endif
 
 /* The version of this header: new calls raise its second number, changed ones its first. */
-#define RBBI_VERSION "2.2.0"
+#define RBBI_VERSION "2.3.0"
 
 /* A list of property files, a table and a session. */
 typedef struct rbbi_files {
@@ -176,6 +176,12 @@ int rbbi_session_open(rbbi_session *session, rbbi_table *table, const char *text
    pair; the number of the first such unit, from 0, goes to `lone`, which may be NULL. */
 int rbbi_session_open_utf16(rbbi_session *session, rbbi_table *table, const uint16_t *text,
                             size_t length, int unit, uint32_t *lone);
+
+/* Opens a second session, `copy`, over a copy of the text as it is, with the same table, unit and
+   cursor: for a second view, or to keep what was before an edit. From then on neither changes the
+   other. It takes the time and the memory of one copy of the text, and while it runs up to twice that
+   memory. What `session` has found isn't copied, so the first questions to `copy` search. */
+int rbbi_session_fork(rbbi_session *session, rbbi_session *copy);
 
 void rbbi_session_close(rbbi_session *session);
 

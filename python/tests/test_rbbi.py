@@ -115,6 +115,26 @@ class Sessions(unittest.TestCase):
                 with self.table.session(text) as new:
                     self.assertEqual(list(session), list(new))
 
+    def test_an_edit_tells_what_it_changed(self):
+        with self.table.session('ab 12 cd') as session:
+            change = session.replace_changed(3, 2, "x'y")
+            self.assertEqual(change, (3, 5, 6))
+            self.assertEqual((change.start, change.old_end, change.new_end), (3, 5, 6))
+            self.assertEqual([segment.end for segment in session], [2, 3, 6, 7, 9])
+            with self.assertRaises(Error) as caught:
+                session.replace_changed(9, 1, '')
+            self.assertEqual(caught.exception.answer, Answer.OUTSIDE)
+
+    def test_a_fork_has_a_text_and_a_cursor_of_its_own(self):
+        with self.table.session('ab 12', Unit.UTF16) as session:
+            session.following(2)
+            copy = session.fork()
+            self.assertEqual((copy.current(), copy.text()), (3, 'ab 12'))
+            copy.replace(0, 3, '')
+            self.assertEqual((session.current(), session.text()), (3, 'ab 12'))
+        with copy:
+            self.assertEqual(list(copy), [(0, 2, 100)])
+
     def test_edits_that_cannot_be_are_refused_and_change_nothing(self):
         with self.table.session('a\U0001f600', Unit.UTF16) as session:
             for at, remove, answer in [(3, 1, Answer.OUTSIDE), (2, 0, Answer.INSIDE)]:

@@ -15,4 +15,5 @@ pub mod Listing
 pub mod Parts
 pub mod Wide
 pub mod Changing
+pub mod Forking
 pub mod inner

@@ -7,7 +7,7 @@ use crate::answering::{edit_code, text_of};
 use crate::codes;
 use crate::handle::Handle;
 use crate::lending::{Lent, give_back, lend};
-use crate::part::spelled;
+use crate::part::copy_of;
 use rbbi_change::{Before, Edit, changed};
 use rbbi_session::{UnitEditErr, UnitSession, Walk};
 use rbbi_table::{FrontPlaces, Table};
@@ -61,10 +61,7 @@ fn removed_by<L: Ledger>(
     if !end.whole {
         return Err(UnitEditErr::Inside);
     }
-    let Ok(removed) = spelled(alloc, text, first.at, end.at, steps) else {
-        return Err(UnitEditErr::Memory);
-    };
-    match Pieces::new(alloc, &removed) {
+    match copy_of(alloc, text, first.at, end.at, steps) {
         Ok(text) => Ok(Removed {
             first: first.at,
             text,

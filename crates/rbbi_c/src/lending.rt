@@ -32,6 +32,7 @@ pub(crate) fn lend(alloc: Global, handle: &mut Handle) -> Option<Lent>
 }
 
 /// Puts a session back. It takes no memory.
+#[inline(always)]
 pub(crate) fn give_back(alloc: Global, handle: &mut Handle, desk: Desk, room: Box<Held>)
     ensures { handle.new.held ≡ Some (Session desk) }
 {

@@ -10,6 +10,7 @@ mod compiling;
 mod copying;
 mod desk;
 mod faults;
+mod forking;
 mod handle;
 mod held;
 mod lending;
@@ -33,6 +34,7 @@ mod wide;
 
 pub use changing::{Changed, rbbi_c_replace_changed};
 pub use faults::Fault;
+pub use forking::rbbi_c_fork;
 pub use handle::Handle;
 pub use named::rbbi_c_table_named;
 pub use questions::{

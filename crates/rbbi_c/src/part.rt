@@ -28,6 +28,25 @@ pub(crate) fn spelled<L: Ledger>(
     Ok(made)
 }
 
+/// A copy of the text from a place to another.
+pub(crate) fn copy_of<L: Ledger>(
+    alloc: Global,
+    text: &Pieces,
+    first: u32,
+    last: u32,
+    steps: &mut Steps<L>,
+) -> Result<Pieces, AllocError>
+    requires order { first ≤ last }
+    requires within { last ≤ length text.now }
+    ensures { IfOk result (λ copy. copy ≡ slice_range text.now first last) }
+{
+    let made = spelled(alloc, text, first, last, steps)?;
+    match Pieces::new(alloc, &made) {
+        Ok(copy) => Ok(copy),
+        Err(_) => Err(AllocError),
+    }
+}
+
 /// The characters between two numbers, in UTF-8, or the code of the refusal.
 pub(crate) fn part_of<L: Ledger>(
     alloc: Global,

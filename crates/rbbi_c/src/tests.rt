@@ -1,9 +1,12 @@
 //! The calls as C makes them. `bin/check-c` makes them from C.
 use crate::codes;
 use crate::faults::Fault;
+use crate::forking::rbbi_c_fork;
 use crate::handle::Handle;
 use crate::named::rbbi_c_table_named;
-use crate::questions::{rbbi_c_following, rbbi_c_is_boundary, rbbi_c_next, rbbi_c_status};
+use crate::questions::{
+    rbbi_c_current, rbbi_c_following, rbbi_c_is_boundary, rbbi_c_next, rbbi_c_status,
+};
 use crate::ranges::{rbbi_c_boundaries, rbbi_c_boundaries_before, rbbi_c_part, rbbi_c_segment};
 use crate::rules::{rbbi_c_properties, rbbi_c_properties_add, rbbi_c_table_compile};
 use crate::segment::Segment;
@@ -92,6 +95,14 @@ fn check_questions(rt: &impl Abort, memory: Memory, session: &mut Handle) {
     assert!(rt; code == codes::OK && number == 7);
     check_statuses(rt, memory, session);
     let code = rbbi_c_following(memory, session, 3, &mut number);
+    assert!(rt; code == codes::OK && number == 4);
+}
+
+/// Forks the session, whose cursor is at 4.
+fn check_fork(rt: &impl Abort, memory: Memory, session: &mut Handle, copy: &mut Handle) {
+    assert!(rt; rbbi_c_fork(memory, session, copy) == codes::OK);
+    let mut number = 99;
+    let code = rbbi_c_current(memory, copy, &mut number);
     assert!(rt; code == codes::OK && number == 4);
 }
 
@@ -191,6 +202,9 @@ fn a_session_outlives_its_tables_handle(rt: HostRuntime) {
     rbbi_c_close(memory, &mut table);
     done(&rt, table);
     check_questions(&rt, memory, &mut session);
+    let mut copy = Handle::closed();
+    check_fork(&rt, memory, &mut session, &mut copy);
+    done(&rt, copy);
     check_boundaries(&rt, memory, &mut session);
     check_segment(&rt, memory, &mut session);
     check_utf16(&rt, memory, &mut session);

@@ -1,4 +1,4 @@
-//! A session without its table.
+//! A session without its table, and what sessions keep.
 ghost use Rattle.std.specs.Prelude.{◌≡◌};
 ghost use Rattle.rbbi_session.specs.Pausing.{IsPausedBy, IsPaused, resumed};
 
@@ -9,15 +9,23 @@ use rbbi_table::Table;
 use rbbi_text::EditText;
 use std::marker::Model;
 
+/// What a session keeps: all but its table.
+#[derive(Drop)]
+pub(crate) struct Kept<T: EditText> {
+    pub(crate) text: T,
+    /// The boundary at the cursor.
+    pub(crate) here: Boundary,
+    /// Boundaries that were found.
+    pub(crate) cache: Cache,
+}
+
 /// A session that has let go of its table: its text, its cursor and the boundaries that it keeps.
 ///
 /// Who owns a table and a session over it, as a handle for C does, keeps the session so between two
-/// calls.
+/// calls. To pause and to resume moves a pointer.
 #[derive(Drop)]
 pub struct Paused<T: EditText> {
-    pub(crate) text: T,
-    pub(crate) here: Boundary,
-    pub(crate) cache: Cache,
+    pub(crate) kept: Box<Kept<T>>,
 }
 
 impl<T: EditText> Model for Paused<T> {
@@ -26,10 +34,13 @@ impl<T: EditText> Model for Paused<T> {
     ghost Value = { Paused };
 
     ghost view = { λ paused. record {
-      state = record { text = T.characters paused.text; cursor = paused.here.at };
-      list = paused.here.status;
-      runs = paused.cache.runs;
-      slashes = paused.cache.slashes;
+      state = record {
+        text = T.characters paused.kept.value.text;
+        cursor = paused.kept.value.here.at;
+      };
+      list = paused.kept.value.here.status;
+      runs = paused.kept.value.cache.runs;
+      slashes = paused.kept.value.cache.slashes;
     } };
 }
 
@@ -38,13 +49,8 @@ impl<'a, T: EditText> Session<'a, T> {
     pub fn pause(self) -> Paused<T>
         ensures { IsPaused self.entry result }
     {
-        let Session {
-            table: _,
-            text,
-            here,
-            cache,
-        } = self;
-        Paused { text, here, cache }
+        let Session { table: _, kept } = self;
+        Paused { kept }
     }
 
     /// Goes on with the table that a session was paused by. It takes no memory.
@@ -52,12 +58,7 @@ impl<'a, T: EditText> Session<'a, T> {
         requires { IsPausedBy table.now paused }
         ensures { result ≡ resumed table.now paused }
     {
-        let Paused { text, here, cache } = paused;
-        Session {
-            table,
-            text,
-            here,
-            cache,
-        }
+        let Paused { kept } = paused;
+        Session { table, kept }
     }
 }

@@ -11,6 +11,7 @@ ghost use Rattle.rbbi_session.specs.Questions.{Past, Back};
 ghost use Rattle.rbbi_session.specs.Asking.{IsAsked, Asks, EditReads};
 
 use crate::boundary::{Boundary, start};
+use crate::paused::Kept;
 use crate::statuses::greatest;
 use rbbi_cache::Cache;
 use rbbi_table::Table;
@@ -28,11 +29,7 @@ use std::sync::ledger::Ledger;
 #[derive(Drop)]
 pub struct Session<'a, T: EditText> {
     pub(crate) table: &'a Table,
-    pub(crate) text: T,
-    /// The boundary at the cursor.
-    pub(crate) here: Boundary,
-    /// Boundaries that were found.
-    pub(crate) cache: Cache,
+    pub(crate) kept: Box<Kept<T>>,
 }
 
 impl<'a, T: EditText> Model for Session<'a, T> {
@@ -44,12 +41,15 @@ impl<'a, T: EditText> Model for Session<'a, T> {
 
     ghost view = { λ session. record {
       table = session.table.now;
-      state = record { text = T.characters session.text; cursor = session.here.at };
-      runs = session.cache.runs;
+      state = record {
+        text = T.characters session.kept.value.text;
+        cursor = session.kept.value.here.at;
+      };
+      runs = session.kept.value.cache.runs;
     } };
 
-    ghost invariant = { λ session. IsConsistent session.table.now (T.characters session.text)
-        session.here.at session.here.status session.cache.runs session.cache.slashes };
+    ghost invariant = { λ session. let kept = session.kept.value in IsConsistent session.table.now
+        (T.characters kept.text) kept.here.at kept.here.status kept.cache.runs kept.cache.slashes };
 }
 
 impl<'a, T: EditText + Drop> Session<'a, T> {
@@ -58,12 +58,11 @@ impl<'a, T: EditText + Drop> Session<'a, T> {
         ensures { IfOk result (λ session. IsOpened table.now (T.characters text) session) }
     {
         let cache = Cache::new(alloc, table)?;
-        Ok(Session {
-            table,
-            text,
-            here: start(table),
-            cache,
-        })
+        let here = start(table);
+        match Box::new(alloc, Kept { text, here, cache }) {
+            Ok(kept) => Ok(Session { table, kept }),
+            Err(_) => Err(AllocError),
+        }
     }
 }
 
@@ -74,7 +73,7 @@ impl<'a, T: EditText> Session<'a, T> {
         ensures runs { self.new.runs ≡ self.old.runs }
         ensures are_true { HasTrueRuns self.new }
     {
-        self.here = start(self.table);
+        self.kept.here = start(self.table);
         0
     }
 
@@ -83,7 +82,7 @@ impl<'a, T: EditText> Session<'a, T> {
         ensures answers { Answers self.old question.Last (Place result) self.new }
         ensures reads { Asks self.old question.Last self.new steps.old steps.new }
     {
-        let len = self.text.len();
+        let len = self.text().len();
         if len == 0 {
             return self.first();
         }
@@ -96,10 +95,11 @@ impl<'a, T: EditText> Session<'a, T> {
         ensures answers { Answers self.old question.Next (place_reply result) self.new }
         ensures reads { Asks self.old question.Next self.new steps.old steps.new }
     {
-        if self.here.at >= self.text.len() {
+        let at = self.kept.here.at;
+        if at >= self.text().len() {
             return None;
         }
-        Some(self.go_past(self.here.at, steps))
+        Some(self.go_past(at, steps))
     }
 
     /// Goes to the last boundary before the cursor. None where the cursor is at 0; then it stays.
@@ -107,10 +107,11 @@ impl<'a, T: EditText> Session<'a, T> {
         ensures answers { Answers self.old question.Previous (place_reply result) self.new }
         ensures reads { Asks self.old question.Previous self.new steps.old steps.new }
     {
-        if self.here.at == 0 {
+        let at = self.kept.here.at;
+        if at == 0 {
             return None;
         }
-        Some(self.go_before(self.here.at, steps))
+        Some(self.go_before(at, steps))
     }
 
     /// Goes to the first boundary past a place, which may lie after the text. None where there is
@@ -119,7 +120,7 @@ impl<'a, T: EditText> Session<'a, T> {
         ensures answers { Answers self.old (question.Following o) (place_reply result) self.new }
         ensures reads { Asks self.old (question.Following o) self.new steps.old steps.new }
     {
-        if o >= self.text.len() {
+        if o >= self.text().len() {
             self.last(steps);
             return None;
         }
@@ -149,7 +150,7 @@ impl<'a, T: EditText> Session<'a, T> {
             self.first();
             return true;
         }
-        if o > self.text.len() {
+        if o > self.text().len() {
             self.last(steps);
             return false;
         }
@@ -161,7 +162,7 @@ impl<'a, T: EditText> Session<'a, T> {
         ensures answer { Place result ≡ (answer_of self.now question.Current).reply }
         ensures boundary { IsPlaceOf (boundaries_of self.now) result }
     {
-        self.here.at
+        self.kept.here.at
     }
 
     /// The greatest status of the boundary at the cursor.
@@ -175,14 +176,14 @@ impl<'a, T: EditText> Session<'a, T> {
     pub fn status_list(&self) -> &[u32]
         ensures { AllOf result.now ≡ (answer_of self.now question.Statuses).reply }
     {
-        self.table.status_list(self.here.status)
+        self.table.status_list(self.kept.here.status)
     }
 
     /// The text as it is now.
     pub fn text(&self) -> &T
         ensures { T.characters result.now ≡ self.now.state.text }
     {
-        &self.text
+        &self.kept.text
     }
 
     /// That each kept run is true of the text as it is now. Callers' proofs don't see what a
@@ -191,7 +192,7 @@ impl<'a, T: EditText> Session<'a, T> {
     pub fn runs_are_true(&self)
         ensures { HasTrueRuns self.now }
     {
-        let _text = &self.text;
+        let _text = &self.kept.text;
     }
 
     /// Puts the characters of `insert` in place of `remove` characters from `at` on, and the cursor
@@ -212,13 +213,14 @@ impl<'a, T: EditText> Session<'a, T> {
             steps.old steps.new }
         ensures are_true { HasTrueRuns self.new }
     {
+        let kept = &mut *self.kept;
         // That the text is short enough for the cache is known of its length.
-        let _short = self.text.len();
-        self.text.replace(at, remove, insert)?;
+        let _short = kept.text.len();
+        kept.text.replace(at, remove, insert)?;
         let inserted = character_count(insert);
-        self.cache
-            .edited(self.table, &self.text, at, remove, inserted, steps);
-        self.here = start(self.table);
+        kept.cache
+            .edited(self.table, &kept.text, at, remove, inserted, steps);
+        kept.here = start(self.table);
         Ok(())
     }
 
@@ -232,10 +234,11 @@ impl<'a, T: EditText> Session<'a, T> {
             self.new steps.old steps.new }
     {
         self.table.valid();
-        let Some(entry) = self.cache.after(self.table, &self.text, i, steps) else {
-            return self.here.at;
+        let kept = &mut *self.kept;
+        let Some(entry) = kept.cache.after(self.table, &kept.text, i, steps) else {
+            return kept.here.at;
         };
-        self.here = Boundary {
+        kept.here = Boundary {
             at: entry.at,
             status: entry.status,
         };
@@ -251,10 +254,11 @@ impl<'a, T: EditText> Session<'a, T> {
             (preceding_cost self.old.table self.old.state.text o) self.new steps.old steps.new }
     {
         self.table.valid();
-        let Some(entry) = self.cache.before(self.table, &self.text, o, steps) else {
-            return self.here.at;
+        let kept = &mut *self.kept;
+        let Some(entry) = kept.cache.before(self.table, &kept.text, o, steps) else {
+            return kept.here.at;
         };
-        self.here = Boundary {
+        kept.here = Boundary {
             at: entry.at,
             status: entry.status,
         };

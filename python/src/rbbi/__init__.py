@@ -18,10 +18,11 @@ from array import array
 from typing import (Any, Callable, ClassVar, Iterable, Iterator, NamedTuple, Optional, TypeVar,
                     Union)
 
-from ._library import (LIBRARY, Answer, CFault, Error, Fault, Handle, LoneSurrogate, checked)
+from ._library import (LIBRARY, Answer, CChange, CFault, Error, Fault, Handle, LoneSurrogate,
+                       checked)
 
-__all__ = ['Answer', 'Boundaries', 'Error', 'Fault', 'LoneSurrogate', 'Segment', 'Session', 'Table',
-           'Text', 'Unit', 'unicode_version', 'version']
+__all__ = ['Answer', 'Boundaries', 'Change', 'Error', 'Fault', 'LoneSurrogate', 'Segment', 'Session',
+           'Table', 'Text', 'Unit', 'unicode_version', 'version']
 
 Text = Union[str, bytes]
 """A text: a `str`, or bytes of UTF-8."""
@@ -48,6 +49,16 @@ class Segment(NamedTuple):
     start: int
     end: int
     status: int
+
+
+class Change(NamedTuple):
+    """What an edit changed: outside of this range boundaries and statuses are the old ones.
+
+    It begins at the same place of the old and the new text. At its ends boundaries may differ.
+    """
+    start: int
+    old_end: int
+    new_end: int
 
 
 class Boundaries(NamedTuple):
@@ -215,6 +226,17 @@ class Session(_Closing):
         checked(answer, lone=lone.value)
         return session
 
+    def fork(self) -> Session:
+        """A second session over a copy of the text, with the same table, unit and cursor.
+
+        From then on neither changes the other. It takes the time and the memory of one copy.
+        """
+        copy = type(self).__new__(type(self))
+        copy._begin()
+        with self._lock:
+            checked(LIBRARY.rbbi_session_fork(self._ref, copy._ref))
+        return copy
+
     def _begin(self) -> None:
         _Closing.__init__(self)
         self._place = ctypes.c_uint32()
@@ -296,6 +318,17 @@ class Session(_Closing):
         with self._lock:
             checked(LIBRARY.rbbi_session_replace(self._ref, _number(at), _number(remove), insert,
                                                  len(insert)))
+
+    def replace_changed(self, at: int, remove: int, insert: Text) -> Change:
+        """The same edit, which tells what it changed: what an editor is to draw again.
+
+        That is the least range that has the edit in it and outside of which boundaries are as before.
+        """
+        insert, change = _bytes(insert), CChange()
+        with self._lock:
+            checked(LIBRARY.rbbi_session_replace_changed(self._ref, _number(at), _number(remove),
+                                                         insert, len(insert), ctypes.byref(change)))
+        return Change(change.start, change.old_end, change.new_end)
 
     def replace_utf16(self, at: int, remove: int, units: Any) -> None:
         """Puts a text in UTF-16 in place of `remove` units from `at` on, and the cursor at 0.

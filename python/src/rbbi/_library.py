@@ -37,6 +37,12 @@ class CFault(ctypes.Structure):
                 ('column', ctypes.c_uint32), ('byte', ctypes.c_uint32)]
 
 
+class CChange(ctypes.Structure):
+    """What an edit changed as C has it."""
+    _fields_ = [('start', ctypes.c_uint32), ('old_end', ctypes.c_uint32),
+                ('new_end', ctypes.c_uint32)]
+
+
 class Error(Exception):
     """A call was refused; `answer` says why."""
 
@@ -116,7 +122,9 @@ def _loaded() -> Any:
         'table_write': [handle, room, size, count],
         'session_open': [handle, handle, text, size, flag],
         'session_open_utf16': [handle, handle, room, size, flag, numbers],
+        'session_fork': [handle, handle],
         'session_replace': [handle, number, number, text, size],
+        'session_replace_changed': [handle, number, number, text, size, ctypes.POINTER(CChange)],
         'session_replace_utf16': [handle, number, number, room, size, numbers],
         'session_text': [handle, number, number, room, size, count],
         'session_length': [handle, numbers],

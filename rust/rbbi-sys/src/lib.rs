@@ -27,6 +27,15 @@ pub struct rbbi_fault {
     pub byte: u32,
 }
 
+/// What an edit changed.
+#[repr(C)]
+#[derive(Clone, Copy, Debug)]
+pub struct rbbi_change {
+    pub from: u32,
+    pub old_to: u32,
+    pub new_to: u32,
+}
+
 pub const RBBI_OK: c_int = 0;
 pub const RBBI_DONE: c_int = 1;
 pub const RBBI_NULL: c_int = 2;
@@ -101,6 +110,7 @@ extern "C" {
         unit: c_int,
         lone: *mut u32,
     ) -> c_int;
+    pub fn rbbi_session_fork(session: *mut rbbi_handle, copy: *mut rbbi_handle) -> c_int;
     pub fn rbbi_session_close(session: *mut rbbi_handle);
     pub fn rbbi_session_replace(
         session: *mut rbbi_handle,
@@ -108,6 +118,14 @@ extern "C" {
         remove: u32,
         insert: *const c_char,
         length: usize,
+    ) -> c_int;
+    pub fn rbbi_session_replace_changed(
+        session: *mut rbbi_handle,
+        at: u32,
+        remove: u32,
+        insert: *const c_char,
+        length: usize,
+        change: *mut rbbi_change,
     ) -> c_int;
     pub fn rbbi_session_replace_utf16(
         session: *mut rbbi_handle,

@@ -23,7 +23,7 @@ mod session;
 mod table;
 
 pub use error::{Error, Fault};
-pub use session::{Boundaries, Chunks, Segment, Segments, Session, Unit};
+pub use session::{Boundaries, Change, Chunks, Segment, Segments, Session, Unit};
 pub use table::{Files, Table};
 
 use std::ffi::{c_char, CStr};

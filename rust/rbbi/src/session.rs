@@ -1,6 +1,6 @@
 //! A text with a table and a cursor.
 use crate::error::{checked, checked_utf16, Error};
-use rbbi_sys::{rbbi_handle, RBBI_INIT, RBBI_OK, RBBI_ROOM};
+use rbbi_sys::{rbbi_change, rbbi_handle, RBBI_INIT, RBBI_OK, RBBI_ROOM};
 use std::ffi::c_int;
 
 /// What places, lengths and numbers of a session count.
@@ -24,6 +24,18 @@ pub struct Segment {
     pub end: u32,
     /// The greatest status of its end.
     pub status: u32,
+}
+
+/// What an edit changed: outside of this range, boundaries and their statuses are the old ones. At
+/// its ends they may differ.
+#[derive(Clone, Copy, Debug, PartialEq, Eq)]
+pub struct Change {
+    /// Where it begins, in the old and in the new text.
+    pub from: u32,
+    /// Where it ended in the old text.
+    pub old_to: u32,
+    /// Where it ends in the new text.
+    pub new_to: u32,
 }
 
 /// A text with a table and a cursor. Each answer is what a scan of the whole text as it is gives.
@@ -68,6 +80,15 @@ impl Session {
             rbbi_sys::rbbi_session_open_utf16(handle, table, units, length, unit as c_int, lone)
         })?;
         Ok(session)
+    }
+
+    /// A second session over a copy of the text as it is, with the same table, unit and cursor. From
+    /// then on neither changes the other. It takes the time and the memory of one copy of the text.
+    pub fn fork(&mut self) -> Result<Session, Error> {
+        let mut copy = Session { handle: RBBI_INIT };
+        // SAFETY: the handle holds a session, and that of the copy nothing.
+        checked(unsafe { rbbi_sys::rbbi_session_fork(&mut self.handle, &mut copy.handle) })?;
+        Ok(copy)
     }
 
     fn asked(&mut self, question: Question) -> Option<u32> {
@@ -160,6 +181,37 @@ impl Session {
         // SAFETY: the handle holds a session, and the string is live.
         checked(unsafe {
             rbbi_sys::rbbi_session_replace(&mut self.handle, at, remove, text, length)
+        })
+    }
+
+    /// The same edit, which also tells what it changed: the least range that has the edit in it and
+    /// outside of which all boundaries are the old ones. This is what is to be drawn again.
+    pub fn replace_changed(
+        &mut self,
+        at: u32,
+        remove: u32,
+        insert: &str,
+    ) -> Result<Change, Error> {
+        let (text, length) = (insert.as_ptr().cast(), insert.len());
+        let mut change = rbbi_change {
+            from: 0,
+            old_to: 0,
+            new_to: 0,
+        };
+        // SAFETY: the handle holds a session, and the string and the change are live.
+        checked(unsafe {
+            let handle = &mut self.handle;
+            rbbi_sys::rbbi_session_replace_changed(handle, at, remove, text, length, &mut change)
+        })?;
+        let rbbi_change {
+            from,
+            old_to,
+            new_to,
+        } = change;
+        Ok(Change {
+            from,
+            old_to,
+            new_to,
         })
     }
 

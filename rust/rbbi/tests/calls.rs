@@ -1,5 +1,5 @@
 //! The calls of the crate, over the library.
-use rbbi::{Error, Files, Segment, Session, Table, Unit};
+use rbbi::{Change, Error, Files, Segment, Session, Table, Unit};
 use std::thread;
 
 const RULES: &str = "!!chain;
@@ -141,6 +141,32 @@ fn edits_answer_as_a_new_session_over_the_new_text() {
         text.replace_range(at..end, insert);
         assert_eq!(ends(&mut session), ends(&mut opened(&text, Unit::Utf8)));
     }
+}
+
+#[test]
+fn an_edit_tells_what_it_changed() {
+    let mut session = opened("ab 12 cd", Unit::Utf8);
+    let change = session.replace_changed(3, 2, "x'y").unwrap();
+    let wanted = Change {
+        from: 3,
+        old_to: 5,
+        new_to: 6,
+    };
+    assert_eq!((change, ends(&mut session)), (wanted, vec![2, 3, 6, 7, 9]));
+    assert_eq!(session.replace_changed(9, 1, ""), Err(Error::Outside));
+    assert_eq!(session.text(0, 9).as_deref(), Ok("ab x'y cd"));
+}
+
+#[test]
+fn a_fork_has_a_text_and_a_cursor_of_its_own() {
+    let mut session = opened("ab 12", Unit::Utf16);
+    session.following(2);
+    let mut copy = session.fork().unwrap();
+    assert_eq!((copy.current(), copy.status()), (3, 0));
+    copy.replace(0, 3, "").unwrap();
+    assert_eq!((session.current(), session.length()), (3, 5));
+    drop(session);
+    assert_eq!(ends(&mut copy), [2]);
 }
 
 #[test]

@@ -1,6 +1,4 @@
-use Rattle.std.proofs.Common.{◌+◌, ◌≤◌, chars, length, sym, ap, ◌∙◌, subst, string_bytes, arith}
-use Rattle.std.specs.Prelude.{slice_range}
-use Rattle.std.proofs.lemmas.Str.{chars_from_encodes, IsUtf8-string_bytes}
+use Rattle.std.proofs.Common.{◌+◌, ◌≤◌, length, subst, arith}
 use Rattle.rbbi_model.specs.Units.{offset_of}
 use Rattle.rbbi_session.proofs.UnitAnswering.{not_true, not_false}
 use Rattle.rbbi_session.proofs.UnitEditing.{place_at_whole, place_at_inside, edit_begins_inside, edit_ends_inside}
@@ -25,8 +23,8 @@ returns-then-not-end g c = λ w.
     edit_ends_inside unit x c.args.at c.args.remove w c.index-first.result.at low first
     (place_at_inside unit x (c.args.at + c.args.remove) c.index-end.result c.index-end.ensures (not_true c.index-end.result.whole c.if-not-end.true))
 
-pub returns-in-Ok-new : goal.returns-in-Ok-new
-returns-in-Ok-new g c =
+pub returns-in-Ok : goal.returns-in-Ok
+returns-in-Ok g c =
     let unit = c.args.unit in let x = c.args.text.now in
     record {
       end = c.index-end.result.at;
@@ -37,9 +35,5 @@ returns-in-Ok-new g c =
       within = c.index-end.ensures.within;
       low = subst (λ n. c.args.at + c.args.remove ≤ offset_of unit x n) c.len.ensures.exact
           (omega (arith, c.if-at-units.false, c.if-remove-units.false, c.offset-units.ensures));
-      text_is =
-          c.in-Ok-new.ensures.0
-          ∙ ap chars c.deref.ensures
-          ∙ sym (chars_from_encodes (slice_range x c.index-first.result.at c.index-end.result.at) (string_bytes c.in-Ok.removed)
-          (IsUtf8-string_bytes c.in-Ok.removed) (sym c.in-Ok.ensures));
+      text_is = c.in-Ok.ensures;
     }

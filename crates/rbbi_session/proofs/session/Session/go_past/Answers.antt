@@ -1,4 +1,4 @@
-use Rattle.std.proofs.Common.{◌∙◌, subst}
+use Rattle.std.proofs.Common.{◌≡◌, sym, ap, ◌∙◌, subst}
 use Rattle.rbbi_model.specs.Costs.{forward_cost}
 use Rattle.rbbi_session.specs.Questions.{Past}
 use Rattle.rbbi_session.specs.Asking.{IsAsked}
@@ -8,17 +8,20 @@ use Rattle.rbbi_session.proofs.session.Session.go_past.Goals as goal
 
 pub invariant_of-self-2 : goal.invariant_of-self-2
 invariant_of-self-2 g c = record {
-  reached = reached_inside c.self.inside.table.now c.valid.ensures (g.T.Chars.characters c.self.inside.text) c.entry.view_is
+  reached = reached_inside c.self.inside.table.now c.valid.ensures (g.T.Chars.characters c.deref_mut-kept.result.now.text) c.entry.view_is
       c.in-Some.ensures.answer.1.boundary;
-  fit = c.after.ensures.fit ∙ c.self.invariant.fit;
+  fit = c.after.ensures.fit ∙ ap (λ k. k.cache.slashes) c.deref_mut-kept.ensures.value ∙ c.self.invariant.fit;
   are_true = c.after.ensures.are_true;
 }
 
 pub returns-clause-reads : goal.returns-clause-reads
 returns-clause-reads g c =
+    let table = c.self.inside.table.now in
+    let kept = c.deref_mut-kept.result.now in
+    let was : standing table (g.T.Chars.characters kept.text) kept.here.at kept.cache.runs ≡ c.args.self.now =
+    subst (λ k. standing table (g.T.Chars.characters k.text) k.here.at k.cache.runs ≡ c.args.self.now) (sym c.deref_mut-kept.ensures.value) c.self.view_is in
     subst (λ s. IsAsked s (Past c.args.i) (forward_cost s.table s.state.text c.args.i)
-    (standing c.self.inside.table.now (g.T.Chars.characters c.self.inside.text) c.entry.inside.at c.after.new.self.runs) c.args.steps.now
-    c.after.new.steps) c.self.view_is
+    (standing table (g.T.Chars.characters kept.text) c.entry.inside.at c.after.new.self.runs) c.args.steps.now c.after.new.steps) was
     (record {
       more = c.after.ensures.more;
       cost = c.after.ensures.cost c.in-Some.ensures.answer.0;

@@ -5,7 +5,7 @@ use Rattle.rbbi_session.proofs.session.Session.is_boundary.Goals as goal
 
 pub returns-then-o-len-clause-answers : goal.returns-then-o-len-clause-answers
 returns-then-o-len-clause-answers g c =
-    let same : c.len.result ≡ length c.args.self.now.state.text = c.len.ensures.exact ∙ ap (λ s. length s.state.text) c.self.view_is in
+    let same : c.len.result ≡ length c.args.self.now.state.text = c.len.ensures.exact ∙ ap length c.text.ensures in
     answers_behind c.args.self.now c.last.new.self c.args.o c.last.result (omega (arith, same, c.if-o-len.true)) c.last.ensures.answers
 
 pub returns-clause-answers : goal.returns-clause-answers
@@ -15,6 +15,6 @@ returns-clause-answers g c =
 
 pub returns-clause-reads : goal.returns-clause-reads
 returns-clause-reads g c =
-    let same : c.len.result ≡ length c.args.self.now.state.text = c.len.ensures.exact ∙ ap (λ s. length s.state.text) c.self.view_is in
+    let same : c.len.result ≡ length c.args.self.now.state.text = c.len.ensures.exact ∙ ap length c.text.ensures in
     asks_whether c.args.self.now c.go_past.new.self c.args.steps.now c.go_past.new.steps c.args.o (omega (arith, c.if-o-eq0.false))
     (omega (arith, same, c.if-o-len.false)) c.go_past.ensures.reads

@@ -1,4 +1,4 @@
-use Rattle.std.proofs.Common.{◌≡◌, ℕ, ◌≤◌, List, length, ap, subst, arith}
+use Rattle.std.proofs.Common.{◌≡◌, ℕ, ◌≤◌, List, length, ap, ◌∙◌, subst, arith}
 use Rattle.rbbi_session.proofs.Answering.{answers_no_previous}
 use Rattle.rbbi_model.specs.Costs.{preceding_cost}
 use Rattle.rbbi_session.specs.Questions.{Back}
@@ -9,20 +9,23 @@ use Rattle.rbbi_session.proofs.Asked.{asks_previous}
 use Rattle.rbbi_session.proofs.Reaching.{is_a_place}
 use Rattle.rbbi_session.proofs.session.Session.previous.Goals as goal
 
-pub returns-then-self-eq0-clause-answers : goal.returns-then-self-eq0-clause-answers
-returns-then-self-eq0-clause-answers g c = answers_no_previous c.args.self.now (omega (arith, ap (λ s. s.state.cursor) c.self.view_is, c.if-self-eq0.true))
+pub returns-then-at-eq0-clause-answers : goal.returns-then-at-eq0-clause-answers
+returns-then-at-eq0-clause-answers g c =
+    answers_no_previous c.args.self.now
+    (omega (arith, ap (λ k. k.here.at) c.deref.ensures, ap (λ s. s.state.cursor) c.self.view_is, c.if-at-eq0.true))
 
 pub returns-clause-reads : goal.returns-clause-reads
 returns-clause-reads g c =
     let table = c.self.inside.table.now in
-    let x : List ℕ = g.T.Chars.characters c.self.inside.text in
-    let at : c.self.inside.here.at ≡ c.args.self.now.state.cursor = ap (λ s. s.state.cursor) c.self.view_is in
-    let asked : c.go_before.inside.here.at ≡ c.args.self.now.state.cursor = ap (λ s. s.state.cursor) c.go_before.view_is in
+    let kept = c.self.inside.kept.value in
+    let x : List ℕ = g.T.Chars.characters kept.text in
+    let at : c.deref.result.now.here.at ≡ c.args.self.now.state.cursor =
+    ap (λ k. k.here.at) c.deref.ensures ∙ ap (λ s. s.state.cursor) c.self.view_is in
     let within : c.args.self.now.state.cursor ≤ length c.args.self.now.state.text =
     subst (λ s. s.state.cursor ≤ length s.state.text) c.self.view_is
-    (place_within (table_boundaries table x) c.self.inside.here.at (length x) (none_past table x)
-    (is_a_place table x c.self.inside.here.at c.self.inside.here.status c.self.invariant.reached)) in
-    asks_previous c.args.self.now c.go_before-2.new.self c.args.steps.now c.go_before-2.new.steps (omega (arith, at, c.if-self-eq0.false)) within
-    (subst (λ p. IsAsked c.args.self.now (Back p) (preceding_cost c.args.self.now.table c.args.self.now.state.text p) c.go_before-2.new.self c.args.steps.now
-    c.go_before-2.new.steps)
-    asked c.go_before-2.ensures.reads)
+    (place_within (table_boundaries table x) kept.here.at (length x) (none_past table x)
+    (is_a_place table x kept.here.at kept.here.status c.self.invariant.reached)) in
+    asks_previous c.args.self.now c.go_before.new.self c.args.steps.now c.go_before.new.steps (omega (arith, at, c.if-at-eq0.false)) within
+    (subst (λ p. IsAsked c.args.self.now (Back p) (preceding_cost c.args.self.now.table c.args.self.now.state.text p) c.go_before.new.self c.args.steps.now
+    c.go_before.new.steps)
+    at c.go_before.ensures.reads)
