@@ -17,26 +17,28 @@ ghost use Rattle.rbbi_tool.specs.Filters.{kind_in};
 ghost use Rattle.rbbi_tool.specs.Steps.{list_cost};
 ghost use Rattle.rbbi_tool.specs.inner.Puts.{Puts};
 
+use crate::line_ends::{line_ends, say_listed};
 use rbbi_filter::{CharMap, Filter, Mapped, Tailoring};
 use rbbi_io::{Sink, WriteErr, put_all, put_when_full};
 use rbbi_script::say_bound;
 use rbbi_table::{FrontPlaces, Table};
-use rbbi_text::{Chars, PlainText, Steps, Unit};
+use rbbi_text::{Chars, Counter, FileText, FlatText, Form, Steps, Unit};
 use std::alloc::Global;
 use std::sync::ledger::Ledger;
 
 /// Writes the lines of all boundaries of a text by a table, with their places in a unit, in pieces.
-/// The unit is counted on from boundary to boundary.
-fn put_unit_boundaries<K: Sink, L: Ledger>(
+/// The unit is counted on from boundary to boundary, in decimal.
+fn put_unit_boundaries<T: FlatText, K: Sink, L: Ledger>(
     alloc: Global,
     table: &Table,
-    text: &PlainText,
+    text: &T,
     unit: Unit,
     out: &mut K,
     steps: &mut Steps<L>,
 ) -> Result<(), WriteErr>
-    ensures { Puts (boundary_lines (measured_boundaries table.now unit text.now))
-        (breaks_cost table.now text.now 0) result
+    ensures { Puts (boundary_lines
+        (measured_boundaries table.now unit (T.characters text.now)))
+        (breaks_cost table.now (T.characters text.now) 0) result
         (K.taken out.old) (K.taken out.new) (K.faults out.old) (K.faults out.new)
         steps.old steps.new }
 {
@@ -45,14 +47,16 @@ fn put_unit_boundaries<K: Sink, L: Ledger>(
     rbbi_model::anchors_lead_to_the_boundaries();
     table.valid();
     let mut marks = FrontPlaces::new(alloc, table)?;
+    let ends = line_ends(alloc, table)?;
     let mut made = Vec::new(alloc);
     say_bound(0, &[0], &mut made)?;
     let mut at = 0;
-    let mut offset = 0;
+    let mut offset = Counter::new();
     while at < text.len() {
         let found = table.next(text, at, &mut marks, steps);
-        offset += text.units_between(unit, at, found.at);
-        say_bound(offset, table.status_list(found.status), &mut made)?;
+        let units = text.units_between(unit, at, found.at);
+        offset.advance(units);
+        say_listed(table, &ends, &offset, found.status, &mut made)?;
         put_when_full(out, &mut made)?;
         at = found.at;
     }
@@ -123,10 +127,10 @@ fn put_searched_boundaries<T: Chars, K: Sink, L: Ledger>(
 
 /// Writes the lines of all boundaries of a text by a table, as `map` maps its characters: by the
 /// pairs of a filter, in pieces.
-fn put_mapped_boundaries<G: CharMap, K: Sink, L: Ledger>(
+fn put_mapped_boundaries<T: Chars, G: CharMap, K: Sink, L: Ledger>(
     alloc: Global,
     table: &Table,
-    text: &PlainText,
+    text: &T,
     pairs: &Tailoring,
     map: &G,
     filter: &Filter,
@@ -135,8 +139,9 @@ fn put_mapped_boundaries<G: CharMap, K: Sink, L: Ledger>(
 ) -> Result<(), WriteErr>
     requires pairs { filter.now ≡ Turning pairs.now }
     requires turns { Turns (G.can_map map.now) (G.maps map.now) pairs.now }
-    ensures { Puts (boundary_lines (boundaries_through filter.now table.now text.now))
-        (breaks_through filter.now table.now text.now 0) result
+    ensures { Puts (boundary_lines
+        (boundaries_through filter.now table.now (T.characters text.now)))
+        (breaks_through filter.now table.now (T.characters text.now) 0) result
         (K.taken out.old) (K.taken out.new) (K.faults out.old) (K.faults out.new)
         steps.old steps.new }
 {
@@ -146,17 +151,18 @@ fn put_mapped_boundaries<G: CharMap, K: Sink, L: Ledger>(
 
 /// Writes the lines of all boundaries of a text by a table that are reported, in a unit or through a
 /// filter, in pieces.
-pub(crate) fn put_boundaries<K: Sink, L: Ledger>(
+fn put_boundaries_of<T: FlatText, K: Sink, L: Ledger>(
     alloc: Global,
     table: &Table,
-    text: &PlainText,
+    text: &T,
     unit: Unit,
     filter: &Option<Filter>,
     out: &mut K,
     steps: &mut Steps<L>,
 ) -> Result<(), WriteErr>
-    ensures { Puts (boundary_lines ((kind_in filter.now unit table.now).boundaries text.now))
-        (list_cost filter.now table.now text.now) result
+    ensures { Puts (boundary_lines
+        ((kind_in filter.now unit table.now).boundaries (T.characters text.now)))
+        (list_cost filter.now table.now (T.characters text.now)) result
         (K.taken out.old) (K.taken out.new) (K.faults out.old) (K.faults out.new)
         steps.old steps.new }
 {
@@ -169,5 +175,26 @@ pub(crate) fn put_boundaries<K: Sink, L: Ledger>(
             let map = |c: char| pairs.turn(c);
             put_mapped_boundaries(alloc, table, text, pairs, &map, filter, out, steps)
         }
+    }
+}
+
+/// The same of a file's text, in the form that it is kept in.
+pub(crate) fn put_boundaries<K: Sink, L: Ledger>(
+    alloc: Global,
+    table: &Table,
+    text: &FileText,
+    unit: Unit,
+    filter: &Option<Filter>,
+    out: &mut K,
+    steps: &mut Steps<L>,
+) -> Result<(), WriteErr>
+    ensures { Puts (boundary_lines ((kind_in filter.now unit table.now).boundaries text.now))
+        (list_cost filter.now table.now text.now) result
+        (K.taken out.old) (K.taken out.new) (K.faults out.old) (K.faults out.new)
+        steps.old steps.new }
+{
+    match text.form() {
+        Form::Ascii(text) => put_boundaries_of(alloc, table, text, unit, filter, out, steps),
+        Form::Plain(text) => put_boundaries_of(alloc, table, text, unit, filter, out, steps),
     }
 }

@@ -11,6 +11,7 @@ mod emission;
 mod filters;
 mod in_memory;
 mod laws;
+mod line_ends;
 mod prepare;
 mod prepared;
 mod program;

@@ -4,7 +4,7 @@ use rbbi_command::Output;
 use rbbi_filter::Filter;
 use rbbi_script::Commands;
 use rbbi_table::Table;
-use rbbi_text::{Pieces, PlainText, Unit};
+use rbbi_text::{FileText, Pieces, Unit};
 
 /// What a request comes to, which determines all that is written.
 #[derive(Drop)]
@@ -19,7 +19,7 @@ pub(crate) enum Prepared {
 #[derive(Drop)]
 pub(crate) enum Lines {
     /// Those of the boundaries of a text by a table, in a unit or through a filter.
-    Boundaries(Table, PlainText, Unit, Option<Filter>),
+    Boundaries(Table, FileText, Unit, Option<Filter>),
     /// Those of the replies to the commands of a script, over a text, by a table, in a unit or
     /// through a filter.
     Replies(Table, Pieces, Unit, Option<Filter>, Commands),

@@ -6,7 +6,7 @@ ghost use Rattle.rbbi_tool.specs.inner.Stages.{Meets};
 ghost use Rattle.rbbi_tool.specs.Texts.{text_stage};
 
 use rbbi_command::{Input, Name, Place, Refusal, Subject, fault};
-use rbbi_text::{Chars, Pieces, PlainText, RawErr};
+use rbbi_text::{Chars, FileText, Pieces, RawErr};
 use std::alloc::Global;
 
 /// What taking a text from the bytes of this file answers.
@@ -32,12 +32,12 @@ macro_rules! taken {
 }
 
 /// The text of a text file, to be read from its start to its end.
-pub(crate) fn text_of(alloc: Global, file: &Input) -> Result<PlainText, Refusal>
+pub(crate) fn text_of(alloc: Global, file: &Input) -> Result<FileText, Refusal>
     requires { length file.now.bytes ≤ most_bytes }
     ensures exact { Meets (λ text. text) (text_stage file.now) result }
     ensures text { IfOk result IsText }
 {
-    taken!(alloc, file, PlainText::from_raw(alloc, &file.bytes))
+    taken!(alloc, file, FileText::from_raw(alloc, &file.bytes))
 }
 
 /// The text of a text file, to be edited.

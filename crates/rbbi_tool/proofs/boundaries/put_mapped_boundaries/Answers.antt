@@ -29,6 +29,6 @@ turned_cost filter pairs table x m is at =
 pub returns : goal.returns
 returns g c =
     puts_as
-    (turned_lines c.args.filter.now c.args.pairs.now c.args.table.now c.args.text.now _ c.requires.pairs c.new-turned.ensures)
-    (turned_cost c.args.filter.now c.args.pairs.now c.args.table.now c.args.text.now _ c.requires.pairs c.new-turned.ensures)
+    (turned_lines c.args.filter.now c.args.pairs.now c.args.table.now (g.T.Chars.characters c.args.text.now) _ c.requires.pairs c.new-turned.ensures)
+    (turned_cost c.args.filter.now c.args.pairs.now c.args.table.now (g.T.Chars.characters c.args.text.now) _ c.requires.pairs c.new-turned.ensures)
     c.put_searched_boundaries.ensures
