@@ -28,10 +28,6 @@ named command = refl
 pub same_command : (one other : Command) → name_of one ≡ name_of other → one ≡ other
 same_command one other same = let both = sym (named one) ∙ ap command_at same ∙ named other in cc
 
--- no words at all
-pub no_words : (words : List (List ℕ)) → words ≡ [] → AreNoForm words
-no_words words none request asks = absurd (cc (asks.are))
-
 module _ (words : List (List ℕ)) (word : List ℕ) (more : List (List ℕ)) (are : words ≡ word ∷ more) where
   module _ (command : Command) (is : word ≡ name_of command) (settings : List Setting) (rest : List (List ℕ)) (begin : BeginWithSettings more settings rest)
     where

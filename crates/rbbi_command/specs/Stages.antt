@@ -14,6 +14,10 @@ followed_by {A} {B} first next = record {
   refuses = λ refusal. first.refuses refusal ⊎ ((a : A) × first.passes a × (next a).refuses refusal);
 }
 
+-- the stage passes with such values, and never refuses
+abbrev pub passing : {A : Type 0} → (A → Type 0) → Stage A
+passing P = record { passes = P; refuses = λ _. ⊥ }
+
 -- the stage passes with this value alone, and never refuses
 abbrev pub gives : {A : Type 0} → A → Stage A
 gives {A} a = record { passes = λ b. b ≡ a; refuses = λ _. ⊥ }

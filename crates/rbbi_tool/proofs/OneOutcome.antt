@@ -48,7 +48,8 @@ use Rattle.rbbi_command.specs.declared.refusal.Subject.TheVariants as subject
 use Rattle.rbbi_command.specs.declared.refusal.Place.TheVariants.{Whole, Byte, Row}
 use Rattle.rbbi_command.specs.declared.refusal.Refusal.{Refusal}
 use Rattle.rbbi_command.specs.declared.refusal.Refusal.TheVariants.{Fault}
-use Rattle.rbbi_command.specs.Stages.{Stage, followed_by, gives}
+use Rattle.rbbi_command.specs.Counts.{IsCount}
+use Rattle.rbbi_command.specs.Stages.{Stage, followed_by, passing, gives}
 use Rattle.rbbi_tool.specs.inner.Stages.{IsDeterministic}
 use Rattle.rbbi_command.specs.Refusals.{Outcome, refused, printed}
 use Rattle.rbbi_command.specs.Words.{Request}
@@ -68,12 +69,12 @@ use Rattle.rbbi_tool.specs.Command.Run.{replies_stage}
 use Rattle.rbbi_tool.specs.Filters.{FilteredBasis, filter_stage, behind_filter, filtered_by, filtered_stage, AreReportedBy, AreRepliesBasedOn}
 use Rattle.rbbi_tool.specs.Command.Conform.{told_verdicts, verdicts_stage}
 use Rattle.rbbi_tool.specs.Command.Tally.{counts_stage}
-use Rattle.rbbi_tool.specs.Command.Demo.{demo_rules, number_stage, summary_line, summary_stage}
+use Rattle.rbbi_tool.specs.Command.Demo.{demo_rules, summary_line, TellsSummary}
 use Rattle.rbbi_tool.specs.Scripts.{script_stage, tests_stage}
 use Rattle.rbbi_tool.specs.Program.{nth, words_stage, command_stage, request_stage, run_stage, IsOutcome}
 use Rattle.rbbi_tool.specs.Causes.{TellOneDifference}
 use Rattle.rbbi_command.proofs.Forms.{same_request}
-use Rattle.rbbi_tool.proofs.StageLemmas.{IsSettled, settled, determined_both, settled_both}
+use Rattle.rbbi_tool.proofs.StageLemmas.{IsSettled, settled, passing_determined, determined_both, settled_both}
 use Rattle.rbbi_tool.proofs.OneReading.{script_determined, tests_determined, same_verdicts, filter_determined}
 use Rattle.rbbi_tool.proofs.Tallied.{tally_determined}
 use Rattle.rbbi_model.proofs.Replies.{same_from}
@@ -172,7 +173,7 @@ properties_determined (p ∷ properties) (b ∷ handed) =
 
 -- a stage that gives one value is determined
 gives_determined : {A : Type 0} (a : A) → IsDeterministic A (gives a)
-gives_determined a = record { value = λ b c is is'. is ∙ sym is'; refusal = λ r s is is'. absurd is; apart = λ b r is is'. is' }
+gives_determined a = passing_determined (λ b. b ≡ a) (λ b c is is'. is ∙ sym is')
 
 -- a stage whose faults are told of the second rule file is determined where it is
 second_determined : {A : Type 0} (stage : Stage A) → IsDeterministic A stage → IsDeterministic A (as_second stage)
@@ -294,12 +295,9 @@ module _ (laws : Laws) where
   same_reported (ByTable table) filter unit x these those are are' = are ∙ sym are'
 
   boundaries_determined : (by : FilteredBasis) (unit : TextUnit) (x : List ℕ) → IsDeterministic Outcome (boundaries_stage by unit x)
-  boundaries_determined by unit x = record {
-    value = λ o p (bs, are, is) (cs, are', is').
-        is ∙ ap (λ list. printed (boundary_lines list)) (same_reported by.basis by.filter unit x bs cs are are') ∙ sym is';
-    refusal = λ r s is is'. absurd is;
-    apart = λ o r is is'. is';
-  }
+  boundaries_determined by unit x =
+      passing_determined (boundaries_stage by unit x).passes (λ o p (bs, are, is) (cs, are', is').
+      is ∙ ap (λ list. printed (boundary_lines list)) (same_reported by.basis by.filter unit x bs cs are are') ∙ sym is')
 
   same_replies : (basis : Basis) (filter : Option Filter) (unit : TextUnit) (x : List ℕ) (commands : List scripts.Command) (these those : List Reply)
       → AreRepliesBasedOn basis filter unit x commands these → AreRepliesBasedOn basis filter unit x commands those → these ≡ those
@@ -311,40 +309,27 @@ module _ (laws : Laws) where
 
   replies_determined : (by : FilteredBasis) (unit : TextUnit) (x : List ℕ) (commands : List scripts.Command)
       → IsDeterministic Outcome (replies_stage by unit x commands)
-  replies_determined by unit x commands = record {
-    value = λ o p (rs, are, is) (ss, are', is').
-        is ∙ ap (λ list. printed (all_reply_lines list)) (same_replies by.basis by.filter unit x commands rs ss are are') ∙ sym is';
-    refusal = λ r s is is'. absurd is;
-    apart = λ o r is is'. is';
-  }
+  replies_determined by unit x commands =
+      passing_determined (replies_stage by unit x commands).passes (λ o p (rs, are, is) (ss, are', is').
+      is ∙ ap (λ list. printed (all_reply_lines list)) (same_replies by.basis by.filter unit x commands rs ss are are') ∙ sym is')
 
   -- verdicts are determined
   verdicts_determined : (basis : Basis) (tests : List Test) → IsDeterministic Outcome (verdicts_stage basis tests)
-  verdicts_determined basis tests = record {
-    value = λ o p (vs, are, is) (ws, are', is').
-        is ∙ ap (told_verdicts tests) (same_verdicts basis (same_boundaries basis) laws.verdicts tests vs ws are are') ∙ sym is';
-    refusal = λ r s is is'. absurd is;
-    apart = λ o r is is'. is';
-  }
+  verdicts_determined basis tests =
+      passing_determined (verdicts_stage basis tests).passes (λ o p (vs, are, is) (ws, are', is').
+      is ∙ ap (told_verdicts tests) (same_verdicts basis (same_boundaries basis) laws.verdicts tests vs ws are are') ∙ sym is')
 
   -- the number that a word writes is determined, and so is its summary
-  number_determined : (word : List ℕ) → IsDeterministic ℕ (number_stage word)
-  number_determined word = record {
-    value = λ n m is is'. same_some n m (sym is.written ∙ is'.written);
-    refusal = λ r s is is'. absurd is;
-    apart = λ n r is is'. is';
-  }
+  number_determined : (word : List ℕ) → IsDeterministic ℕ (passing (IsCount word))
+  number_determined word = passing_determined (IsCount word) (λ n m is is'. same_some n m (sym is.written ∙ is'.written))
     where
       same_some : (n m : ℕ) → Some n ≡ Some m → n ≡ m
       same_some n m same = cc
 
-  summary_determined : (count : ℕ) (rules : List Rule) → IsDeterministic Outcome (summary_stage count rules)
-  summary_determined count rules = record {
-    value = λ o p is is'.
-        is.is ∙ ap (λ summary. printed (summary_line summary)) (laws.summaries rules count is.summary is'.summary is.are is'.are) ∙ sym is'.is;
-    refusal = λ r s is is'. absurd is;
-    apart = λ o r is is'. is';
-  }
+  summary_determined : (count : ℕ) (rules : List Rule) → IsDeterministic Outcome (passing (TellsSummary count rules))
+  summary_determined count rules =
+      passing_determined (TellsSummary count rules) (λ o p is is'.
+      is.is ∙ ap (λ summary. printed (summary_line summary)) (laws.summaries rules count is.summary is'.summary is.are is'.are) ∙ sym is'.is)
 
   -- one table of rules is told
   same_table : (rules : List Rule) (name : List ℕ) (one other : Outcome) → TellsTable rules name one → TellsTable rules name other → one ≡ other
@@ -416,8 +401,9 @@ module _ (laws : Laws) where
   command_settled Demo request inputs =
       let word : List ℕ = nth request.operands 0 in
       settled AreAlike (command_stage Demo request inputs) alike
-      (determined_both (number_stage word) (λ count. followed_by (compiled_bytes_stage [] false demo_rules) (summary_stage count)) (number_determined word)
-      (λ count. determined_both (compiled_bytes_stage [] false demo_rules) (summary_stage count)
+      (determined_both (passing (IsCount word)) (λ count. followed_by (compiled_bytes_stage [] false demo_rules) (λ rules. passing (TellsSummary count rules)))
+      (number_determined word)
+      (λ count. determined_both (compiled_bytes_stage [] false demo_rules) (λ rules. passing (TellsSummary count rules))
       (compiled_bytes_determined [] false demo_rules) (summary_determined count)))
   command_settled Check request inputs =
       settled AreAlike (command_stage Check request inputs) alike
@@ -430,12 +416,8 @@ module _ (laws : Laws) where
   command_settled Compile request inputs =
       settled AreAlike (command_stage Compile request inputs) alike
       (determined_both (compiled_stage request.options inputs)
-      (λ rules. record { passes = TellsTable rules (nth request.operands 1); refuses = λ _. ⊥ }) (compiled_determined request.options inputs)
-      (λ rules. record {
-        value = same_table rules (nth request.operands 1);
-        refusal = λ r s is is'. absurd is;
-        apart = λ o r is is'. is';
-      }))
+      (λ rules. passing (TellsTable rules (nth request.operands 1))) (compiled_determined request.options inputs)
+      (λ rules. passing_determined (TellsTable rules (nth request.operands 1)) (same_table rules (nth request.operands 1))))
   command_settled Same request inputs =
       let files : List rows.File = property_files request.options.properties inputs.properties in
       let ignored = request.options.ignored in

@@ -3,7 +3,7 @@ use Rattle.std.proofs.Common.{◌≡◌, ◌⊎◌, inl, inr, ⊎_elim, subst}
 use Rattle.std.specs.Prelude.{Result, Ok, Err}
 use Rattle.rbbi_command.specs.declared.refusal.Refusal.{Refusal}
 use Rattle.rbbi_command.specs.declared.refusal.Refusal.TheVariants.{Memory}
-use Rattle.rbbi_command.specs.Stages.{Stage, followed_by}
+use Rattle.rbbi_command.specs.Stages.{Stage, followed_by, passing}
 use Rattle.rbbi_tool.specs.inner.Stages.{Meets, Serves, IsDeterministic}
 
 -- the stage doesn't both pass and refuse, it refuses in one way alone, and values that it passes with are so related
@@ -15,6 +15,10 @@ pub record IsSettled (A : Type 0) (R : A → A → Type 0) (stage : Stage A) : T
 -- a determined stage is settled
 pub settled : {A : Type 0} (R : A → A → Type 0) (stage : Stage A) → ((a b : A) → a ≡ b → R a b) → IsDeterministic A stage → IsSettled A R stage
 settled R stage same is = record { value = λ a b p q. same a b (is.value a b p q); refusal = is.refusal; apart = is.apart }
+
+-- a stage that never refuses is determined if it passes with one value alone
+pub passing_determined : {A : Type 0} (P : A → Type 0) → ((a b : A) → P a → P b → a ≡ b) → IsDeterministic A (passing P)
+passing_determined P one = record { value = one; refusal = λ r s is is'. absurd is; apart = λ a r is is'. is' }
 
 module _ {A B : Type 0} (first : Stage A) (next : A → Stage B) where
   -- the first stage refuses

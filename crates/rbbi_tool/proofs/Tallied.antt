@@ -14,7 +14,8 @@ use Rattle.rbbi_tally.specs.Counts.{segment_count}
 use Rattle.rbbi_command.specs.Refusals.{Outcome, printed}
 use Rattle.rbbi_tool.specs.Basis.{Basis, AreBoundariesBy}
 use Rattle.rbbi_tool.specs.Command.Tally.{count_lines, TellCounts, TellText, TellEdit, edited_text, text_after, TellCommand, TellCommands}
-use Rattle.rbbi_tool.specs.Command.Tally.{counts_stage}
+use Rattle.rbbi_tool.specs.Command.Tally.{TellTally, counts_stage}
+use Rattle.rbbi_tool.proofs.StageLemmas.{passing_determined}
 use Rattle.rbbi_tool.specs.inner.Stages.{IsDeterministic}
 use Rattle.rbbi_tool.specs.inner.Tallying.{counts_of, lines_of, edit_lines, commands_lines, tally_lines}
 use Rattle.rbbi_tool.proofs.Bases.{GivesThem, boundaries_given}
@@ -107,12 +108,9 @@ module _ (basis : Basis)
 
   -- what is told is determined
   pub tally_determined : (x : List ℕ) (commands : List Command) → IsDeterministic Outcome (counts_stage basis x commands)
-  tally_determined x commands = record {
-    value = λ o p is is'.
-        is.is
-        ∙ ap (λ l. printed (l ++ is.told)) (same_text x is.counts is'.counts is.first is'.first)
-        ∙ ap (λ l. printed (is'.counts ++ l)) (same_commands x commands is.told is'.told is.then is'.then)
-        ∙ sym is'.is;
-    refusal = λ r s is is'. absurd is;
-    apart = λ o r is is'. is';
-  }
+  tally_determined x commands =
+      passing_determined (TellTally basis x commands) (λ o p is is'.
+      is.is
+      ∙ ap (λ l. printed (l ++ is.told)) (same_text x is.counts is'.counts is.first is'.first)
+      ∙ ap (λ l. printed (is'.counts ++ l)) (same_commands x commands is.told is'.told is.then is'.then)
+      ∙ sym is'.is)

@@ -9,7 +9,6 @@ mod boundaries;
 mod command;
 mod emission;
 mod filters;
-mod in_memory;
 mod laws;
 mod line_ends;
 mod prepare;
@@ -23,6 +22,5 @@ mod tables;
 mod tallying;
 mod texts;
 
-pub use in_memory::rbbi_in_memory;
 pub use laws::{files_tell_marks, outcomes_are_unique};
-pub use program::rbbi;
+pub use program::{rbbi, rbbi_in_memory};

@@ -1,10 +1,11 @@
 //! The top call.
-ghost use Rattle.std.specs.Prelude.{◌≡◌, ◌≢◌, ◌≤◌, ◌⊎◌, map, IfOk, IfSome};
+ghost use Rattle.std.specs.Prelude.{◌≡◌, ◌≢◌, ◌≤◌, ◌⊎◌, map, IfOk, IfSome, Some};
 ghost use Rattle.std.specs.String.{string_bytes};
 ghost use Rattle.rbbi_model.specs.Lines.{usage_line};
 ghost use Rattle.rbbi_io.specs.Counts.{Rose, GoesOn, EachGoesOn, EachStays};
 ghost use Rattle.rbbi_io.specs.Answers.{WhereTold};
 ghost use Rattle.rbbi_io.specs.Sinks.{Takes};
+ghost use Rattle.rbbi_io.specs.Memory.{held_by};
 ghost use Rattle.rbbi_command.specs.Words.{Request, IsCommandLine, AreNoForm};
 ghost use Rattle.rbbi_command.specs.Files.{sources_of};
 ghost use Rattle.rbbi_command.specs.Reads.{MakesSomeReads};
@@ -22,7 +23,7 @@ use crate::emission::emit;
 use crate::prepare::prepare;
 use crate::prepared::Prepared;
 use rbbi_command::{Output, Refusal, read_all, request_of, sources_of};
-use rbbi_io::{Files, Sink};
+use rbbi_io::{CalmFiles, CalmSink, Files, Sink};
 use rbbi_text::Steps;
 use std::alloc::{AllocError, Global};
 use std::sync::ledger::Ledger;
@@ -177,4 +178,23 @@ pub fn rbbi<F: Files, K: Sink, L: Ledger>(
         Ok(prepared) => emit(alloc, prepared, files, out, steps),
         Err(AllocError) => 8,
     }
+}
+
+/// Runs the command that the arguments ask for, as `rbbi` does, over files and a sink in memory
+/// that never fail. The result is the exit status.
+///
+/// Every call gives the outcome of the arguments and of what the files hold, or 8 where memory ran
+/// out: 6 and 7 never come.
+pub fn rbbi_in_memory<L: Ledger>(
+    alloc: Global,
+    words: &Vec<String>,
+    files: &mut CalmFiles,
+    out: &mut CalmSink,
+    steps: &mut Steps<L>,
+) -> u8
+    ensures { result ≢ 8 → TakesOutcome (map string_bytes words.now.items) result
+        (Some out.old.bytes) (Some out.new.bytes)
+        (held_by files.old.files) (held_by files.new.files) }
+{
+    rbbi(alloc, words, files, out, steps)
 }

@@ -5,7 +5,7 @@ ghost use Rattle.rbbi_text.specs.Bytes.{most_bytes};
 ghost use Rattle.rbbi_tool.specs.inner.Stages.{Meets};
 ghost use Rattle.rbbi_tool.specs.Texts.{text_stage};
 
-use rbbi_command::{Input, Name, Place, Refusal, Subject, fault};
+use rbbi_command::{Input, Place, Refusal, file_fault};
 use rbbi_text::{Chars, FileText, Pieces, RawErr};
 use std::alloc::Global;
 
@@ -19,12 +19,10 @@ macro_rules! taken {
                 Ok(text)
             }
             Err(RawErr::NotUtf8(at)) => {
-                let subject = Subject::File(Name::new($alloc, $file.name.as_str())?);
-                Err(fault($alloc, subject, "NotUtf8", Place::Byte(at)))
+                Err(file_fault($alloc, $file.name.as_str(), "NotUtf8", Place::Byte(at)))
             }
             Err(RawErr::TooManyChars) => {
-                let subject = Subject::File(Name::new($alloc, $file.name.as_str())?);
-                Err(fault($alloc, subject, "TooManyChars", Place::Whole))
+                Err(file_fault($alloc, $file.name.as_str(), "TooManyChars", Place::Whole))
             }
             Err(RawErr::Memory) => Err(Refusal::Memory),
         }

@@ -69,12 +69,8 @@ fn forward_cost<L: Ledger>(
 /// past the anchor or later, or the anchor is 0.
 fn settles(searches: &[Search], anchor: u32, place: u32) -> bool {
     let low = u64::from(anchor) + 2;
-    for search in searches {
-        if u64::from(search.at) >= low && search.at < place {
-            return true;
-        }
-    }
-    anchor == 0
+    let mut found = searches.iter().map(|search| search.at);
+    anchor == 0 || found.any(|at| u64::from(at) >= low && at < place)
 }
 
 /// The cost of the last boundary before a place from 1 to the length of the text: the walks back

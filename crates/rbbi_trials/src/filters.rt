@@ -12,7 +12,7 @@ use rbbi_script::{Command, perform_by};
 use rbbi_session::{Session, Walk};
 use rbbi_table::Table;
 use rbbi_text::{Pieces, Steps, Word, append, append_number};
-use std::alloc::Global;
+use std::alloc::{AllocError, Global};
 use std::marker::Brand;
 use std::process::Abort;
 use std::sync::ledger::{Blank, Ledger};
@@ -147,36 +147,27 @@ fn reported<L: Ledger>(
     reported
 }
 
-/// Adds a string to a reply.
-fn add(rt: &impl Abort, reply: &mut Vec<u8>, more: &str) {
-    append(more.as_bytes(), reply).expect(rt, more);
-}
-
-/// Adds a number to a reply.
-fn add_number(rt: &impl Abort, reply: &mut Vec<u8>, number: u32) {
-    append_number(number, reply).expect(rt, "a number");
-}
-
 /// Adds a line with the statuses of a list, joined.
-fn add_statuses(rt: &impl Abort, reply: &mut Vec<u8>, table: &Table, status: u16) {
+fn add_statuses(reply: &mut Vec<u8>, table: &Table, status: u16) -> Result<(), AllocError> {
     if status < table.lists() {
         for (i, value) in table.status_list(status).iter().enumerate() {
             if i > 0 {
-                add(rt, reply, ",");
+                append(b",", reply)?;
             }
-            add_number(rt, reply, *value);
+            append_number(*value, reply)?;
         }
     }
-    add(rt, reply, "\n");
+    append(b"\n", reply)
 }
 
 /// Adds the lines of boundaries.
-fn add_boundaries(rt: &impl Abort, reply: &mut Vec<u8>, table: &Table, all: &[Boundary]) {
+fn add_boundaries(reply: &mut Vec<u8>, table: &Table, all: &[Boundary]) -> Result<(), AllocError> {
     for boundary in all {
-        add_number(rt, reply, boundary.at);
-        add(rt, reply, " ");
-        add_statuses(rt, reply, table, boundary.status);
+        append_number(boundary.at, reply)?;
+        append(b" ", reply)?;
+        add_statuses(reply, table, boundary.status)?;
     }
+    Ok(())
 }
 
 /// What a command asks for, where it is a question.
@@ -194,14 +185,18 @@ fn question_of(command: &Command) -> Option<Question> {
 }
 
 /// Adds the reply to a question.
-fn add_answer(rt: &impl Abort, reply: &mut Vec<u8>, question: Question, place: Option<u32>) {
+fn add_answer(
+    reply: &mut Vec<u8>,
+    question: Question,
+    place: Option<u32>,
+) -> Result<(), AllocError> {
     match (question, place) {
-        (Question::IsBoundary(_), Some(1)) => add(rt, reply, "yes"),
-        (Question::IsBoundary(_), _) => add(rt, reply, "no"),
-        (_, Some(place)) => add_number(rt, reply, place),
-        (_, None) => add(rt, reply, "done"),
+        (Question::IsBoundary(_), Some(1)) => append(b"yes", reply)?,
+        (Question::IsBoundary(_), _) => append(b"no", reply)?,
+        (_, Some(place)) => append_number(place, reply)?,
+        (_, None) => append(b"done", reply)?,
     }
-    add(rt, reply, "\n");
+    append(b"\n", reply)
 }
 
 /// Adds the reply to an edit.
@@ -211,14 +206,13 @@ fn add_edited(
     reply: &mut Vec<u8>,
     rescans: &mut Rescans<'_>,
     edit: (u32, u32, &str),
-) {
-    if rescans.replace(rt, alloc, edit.0, edit.1, edit.2) {
-        add(rt, reply, "ok ");
-        add_number(rt, reply, rescans.len());
-        add(rt, reply, "\n");
-    } else {
-        add(rt, reply, "outside\n");
+) -> Result<(), AllocError> {
+    if !rescans.replace(rt, alloc, edit.0, edit.1, edit.2) {
+        return append(b"outside\n", reply);
     }
+    append(b"ok ", reply)?;
+    append_number(rescans.len(), reply)?;
+    append(b"\n", reply)
 }
 
 /// The reply to a command, and a line with the cursor then.
@@ -228,35 +222,26 @@ fn reply<L: Ledger>(
     model: &mut Model<'_>,
     command: &Command,
     steps: &mut Steps<L>,
-) -> Vec<u8> {
+) -> Result<Vec<u8>, AllocError> {
     let mut reply = Vec::new(alloc);
     let reported = reported(rt, alloc, model, steps);
     let rescans = &mut model.rescans;
     if let Some(question) = question_of(command) {
         let answer = answer_on(&reported, rescans.len(), rescans.cursor, question);
         rescans.cursor = answer.cursor;
-        add_answer(rt, &mut reply, question, answer.reply);
+        add_answer(&mut reply, question, answer.reply)?;
     } else if let Command::Replace { at, remove, text } = command {
-        add_edited(
-            rt,
-            alloc,
-            &mut reply,
-            rescans,
-            (*at, *remove, text.as_str()),
-        );
+        let edit = (*at, *remove, text.as_str());
+        add_edited(rt, alloc, &mut reply, rescans, edit)?;
     } else if let Command::Breaks = command {
-        add_boundaries(rt, &mut reply, rescans.table, &reported);
+        add_boundaries(&mut reply, rescans.table, &reported)?;
     } else {
-        add_statuses(
-            rt,
-            &mut reply,
-            rescans.table,
-            status_at(&reported, rescans.cursor),
-        );
+        let status = status_at(&reported, rescans.cursor);
+        add_statuses(&mut reply, rescans.table, status)?;
     }
-    add_number(rt, &mut reply, rescans.cursor);
-    add(rt, &mut reply, "\n");
-    reply
+    append_number(rescans.cursor, &mut reply)?;
+    append(b"\n", &mut reply)?;
+    Ok(reply)
 }
 
 /// The number of the first command, from 0, to which a session replies otherwise than the model, or
@@ -274,7 +259,8 @@ fn first_other<S: Walk, L: Ledger>(
         let mut said = Vec::new(alloc);
         perform_by(session, &command, &mut said, steps).expect(rt, "a reply");
         perform_by(session, &Command::Current, &mut said, steps).expect(rt, "a reply");
-        if said.as_slice() != reply(rt, alloc, model, &command, steps).as_slice() {
+        let wanted = reply(rt, alloc, model, &command, steps).expect(rt, "a reply");
+        if said.as_slice() != wanted.as_slice() {
             return Some(number);
         }
     }
@@ -360,21 +346,13 @@ fn first_other_of_script<L: Ledger, R: Abort>(
     requires some { 0 < blank.parts }
 {
     let alloc = host.alloc();
-    let (plain, file) = filter;
+    let (plain, file) = (filter.0, filter.1.as_bytes());
     let mut steps = Steps::<L>::new(host, blank);
     let letters = draws.text(rt, alloc, LENGTH);
     let text = Pieces::new(alloc, letters.as_str()).expect(rt, "a text");
     let rescans = Rescans::open(rt, alloc, table, letters.as_str());
     let mut model = Model { rescans, plain };
-    first_other_of_filter(
-        rt,
-        alloc,
-        text,
-        file.as_bytes(),
-        &mut model,
-        draws,
-        &mut steps,
-    )
+    first_other_of_filter(rt, alloc, text, file, &mut model, draws, &mut steps)
 }
 
 #[test]
@@ -384,15 +362,8 @@ fn scripts_through_filters(rt: HostRuntime) {
         let table = table_of(&rt, rt.alloc(), rules);
         for seed in 0..SCRIPTS {
             let mut draws = Draws::new(seed, alphabet);
-            let filter = (plain, file);
-            let other = first_other_of_script::<Brand, _>(
-                &rt,
-                &rt,
-                &table,
-                filter,
-                &mut draws,
-                Blank::new(1),
-            );
+            let (filter, draws, blank) = ((plain, file), &mut draws, Blank::new(1));
+            let other = first_other_of_script::<Brand, _>(&rt, &rt, &table, filter, draws, blank);
             assert!(rt;
                 other.is_none(),
                 "seed {seed}, command {other:?} of {rules:?}"

@@ -32,12 +32,7 @@ fn is_kept(cache: &Cache, at: u32) -> bool {
     let Some(run) = cache.kept().first() else {
         return false;
     };
-    for entry in run.entries() {
-        if entry.at == at {
-            return true;
-        }
-    }
-    false
+    run.entries().iter().any(|entry| entry.at == at)
 }
 
 /// Asks a cache.
@@ -58,10 +53,7 @@ fn ask<L: Ledger>(
         Question::Preceding(place) => cache.before(table, text, place, steps),
         _ => None,
     };
-    match found {
-        Some(entry) => Some(entry.at),
-        None => None,
-    }
+    found.map(|entry| entry.at)
 }
 
 /// Whether an answer and its reads are as a row says, and the answer is kept in the first run.
@@ -70,10 +62,7 @@ fn is_right(cache: &Cache, row: Row, answer: Option<u32>, reads: u32) -> bool {
     if answer != wanted || (reads > 0) != must_read {
         return false;
     }
-    match answer {
-        Some(at) => is_kept(cache, at),
-        None => true,
-    }
+    answer.is_none_or(|at| is_kept(cache, at))
 }
 
 /// Asks the questions one after the other, and tells the number of the first, from 0, that isn't

@@ -85,25 +85,8 @@ fn is_kept(question: Question, reply: Option<u32>) -> bool {
     }
 }
 
-/// Whether a question, asked again, is answered the same and reads nothing.
-fn is_answered_again<L: Ledger>(
-    session: &mut Session<'_, Counted<Pieces>>,
-    question: Question,
-    reply: Option<u32>,
-    steps: &mut Steps<L>,
-) -> bool {
-    let again = ask(session, question, steps);
-    again == reply && session.text().reads() == 0
-}
-
-/// Whether the cursor and the statuses there are as they must be.
-fn is_there(table: &Table, session: &Session<'_, Counted<Pieces>>, wanted: Wanted) -> bool {
-    session.current() == wanted.answer.cursor
-        && wanted.status < table.lists()
-        && session.status_list() == table.status_list(wanted.status)
-}
-
-/// Asks a question twice where its answer is kept, and tells whether all is as it must be.
+/// Asks a question, and again if its answer is kept, which must be the same and read nothing. Tells
+/// whether all is as it must be: the replies, the reads, and then the cursor and its statuses.
 fn is_answered<L: Ledger>(
     table: &Table,
     session: &mut Session<'_, Counted<Pieces>>,
@@ -116,10 +99,13 @@ fn is_answered<L: Ledger>(
     if reply != wanted.answer.reply || u64::from(reads) > wanted.cost {
         return false;
     }
-    if is_kept(question, reply) && !is_answered_again(session, question, reply, steps) {
+    if is_kept(question, reply) && ask(session, question, steps) != reply {
         return false;
     }
-    is_there(table, session, wanted)
+    session.text().reads() == 0
+        && session.current() == wanted.answer.cursor
+        && wanted.status < table.lists()
+        && session.status_list() == table.status_list(wanted.status)
 }
 
 /// Makes a drawn edit, and tells whether all is as it must be.

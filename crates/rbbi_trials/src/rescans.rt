@@ -52,12 +52,8 @@ fn boundaries<L: Ledger>(
 
 /// The status list of the boundary at a place.
 pub(crate) fn status_at(boundaries: &[Boundary], place: u32) -> u16 {
-    for boundary in boundaries {
-        if boundary.at == place {
-            return boundary.status;
-        }
-    }
-    u16::MAX
+    let found = boundaries.iter().find(|boundary| boundary.at == place);
+    found.map_or(u16::MAX, |boundary| boundary.status)
 }
 
 /// The string of letters, each as the second of the pair whose first it is.
@@ -69,12 +65,8 @@ pub(crate) fn mapped(
 ) -> String {
     let mut text = String::new(alloc);
     for letter in letters {
-        let mut other = *letter;
-        for pair in pairs {
-            if pair.0 == *letter {
-                other = pair.1;
-            }
-        }
+        let found = pairs.iter().find(|pair| pair.0 == *letter);
+        let other = found.map_or(*letter, |pair| pair.1);
         text.push(other).expect(rt, "a letter");
     }
     text

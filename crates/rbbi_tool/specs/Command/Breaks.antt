@@ -5,18 +5,16 @@ use Rattle.rbbi_model.specs.Boundaries.{Boundary}
 use Rattle.rbbi_model.specs.Lines.{boundary_lines}
 use Rattle.rbbi_command.specs.Settings.{Options}
 use Rattle.rbbi_command.specs.Inputs.{Inputs}
-use Rattle.rbbi_command.specs.Stages.{Stage, followed_by}
+use Rattle.rbbi_command.specs.Stages.{Stage, followed_by, passing}
 use Rattle.rbbi_command.specs.Refusals.{Outcome, printed}
 use Rattle.rbbi_tool.specs.Texts.{text_stage}
 use Rattle.rbbi_tool.specs.Filters.{FilteredBasis, filtered_stage, AreReportedBy}
 
 -- a line for each boundary of a text that is reported
 abbrev pub boundaries_stage : FilteredBasis → TextUnit → List ℕ → Stage Outcome
-boundaries_stage by unit x = record {
-  passes = λ outcome.
-      (boundaries : List Boundary) × AreReportedBy by.basis by.filter unit x boundaries × (outcome ≡ printed (boundary_lines boundaries));
-  refuses = λ _. ⊥;
-}
+boundaries_stage by unit x =
+    passing (λ outcome.
+    (boundaries : List Boundary) × AreReportedBy by.basis by.filter unit x boundaries × (outcome ≡ printed (boundary_lines boundaries)))
 
 -- the boundaries of a text file by a rule file or a table file: in the unit that the options name, or through a filter
 abbrev pub breaks_stage : Options → Inputs → Stage Outcome

@@ -8,7 +8,7 @@ use Rattle.rbbi_model.specs.Canonical.{IsCanonical}
 use Rattle.rbbi_model.specs.TableFile.{spelling}
 use Rattle.rbbi_command.specs.Settings.{Options}
 use Rattle.rbbi_command.specs.Inputs.{Inputs}
-use Rattle.rbbi_command.specs.Stages.{Stage, followed_by}
+use Rattle.rbbi_command.specs.Stages.{Stage, followed_by, passing}
 use Rattle.rbbi_command.specs.Refusals.{Outcome}
 use Rattle.rbbi_tool.specs.Basis.{compiled_stage}
 
@@ -32,4 +32,4 @@ pub record TellsTable (rules : List Rule) (name : List ℕ) (outcome : Outcome) 
 -- the table file of a rule file, under this name
 abbrev pub compile_stage : Options → Inputs → List ℕ → Stage Outcome
 compile_stage options inputs name =
-    followed_by (compiled_stage options inputs) (λ rules. record { passes = TellsTable rules name; refuses = λ _. ⊥ })
+    followed_by (compiled_stage options inputs) (λ rules. passing (TellsTable rules name))

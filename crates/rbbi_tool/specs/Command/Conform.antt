@@ -8,7 +8,7 @@ use Rattle.rbbi_conform.specs.declared.verdict.Verdict.TheVariants.{Same, Differ
 use Rattle.rbbi_conform.specs.Verdicts.{IsVerdict}
 use Rattle.rbbi_command.specs.Settings.{Options}
 use Rattle.rbbi_command.specs.Inputs.{Inputs}
-use Rattle.rbbi_command.specs.Stages.{Stage, followed_by}
+use Rattle.rbbi_command.specs.Stages.{Stage, followed_by, passing}
 use Rattle.rbbi_command.specs.Refusals.{Outcome}
 use Rattle.rbbi_tool.specs.Scripts.{tests_stage}
 use Rattle.rbbi_tool.specs.Basis.{Basis, AreBoundariesBy, basis_stage}
@@ -58,10 +58,8 @@ told_verdicts tests verdicts =
 
 -- the verdicts on tests
 abbrev pub verdicts_stage : Basis → List Test → Stage Outcome
-verdicts_stage basis tests = record {
-  passes = λ outcome. (verdicts : List Verdict) × AreVerdictsBy basis tests verdicts × (outcome ≡ told_verdicts tests verdicts);
-  refuses = λ _. ⊥;
-}
+verdicts_stage basis tests =
+    passing (λ outcome. (verdicts : List Verdict) × AreVerdictsBy basis tests verdicts × (outcome ≡ told_verdicts tests verdicts))
 
 -- the verdicts on a test file, by a rule file or a table file
 abbrev pub conform_stage : Options → Inputs → Stage Outcome

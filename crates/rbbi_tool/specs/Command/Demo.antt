@@ -5,7 +5,7 @@ use Rattle.rbbi_model.specs.Boundaries.{AreBoundaries}
 use Rattle.rbbi_model.specs.Lines.{demo_line}
 use Rattle.rbbi_demo.specs.declared.summary.Summary.{Summary}
 use Rattle.rbbi_demo.specs.Summaries.{IsSummary}
-use Rattle.rbbi_command.specs.Stages.{Stage, followed_by}
+use Rattle.rbbi_command.specs.Stages.{Stage, followed_by, passing}
 use Rattle.rbbi_command.specs.Refusals.{Outcome, printed}
 use Rattle.rbbi_command.specs.Counts.{IsCount}
 use Rattle.rbbi_tool.specs.Basis.{compiled_bytes_stage}
@@ -13,10 +13,6 @@ use Rattle.rbbi_tool.specs.Basis.{compiled_bytes_stage}
 -- the text of the built-in rules
 unfoldable pub demo_rules : List ℕ
 demo_rules = codes "$W = [a-c]; $X = [\\u0308]; $D = [12];\n$W ($W | $X)* {200}; $D+ ([.] $D+)* {100};\n' '+; [.] / ' ' {5}; .;\n"
-
--- the number that the word writes
-abbrev pub number_stage : List ℕ → Stage ℕ
-number_stage word = record { passes = IsCount word; refuses = λ _. ⊥ }
 
 -- what is reported of a summary
 abbrev pub summary_line : Summary → List ℕ
@@ -28,10 +24,8 @@ pub record TellsSummary (count : ℕ) (rules : List Rule) (outcome : Outcome) : 
   pub are : IsSummary (AreBoundaries rules) count summary
   pub is : outcome ≡ printed (summary_line summary)
 
--- the line of the summary
-abbrev pub summary_stage : ℕ → List Rule → Stage Outcome
-summary_stage count rules = record { passes = TellsSummary count rules; refuses = λ _. ⊥ }
-
 -- the demonstration of the number that the word writes, by the built-in rules
 abbrev pub demo_stage : List ℕ → Stage Outcome
-demo_stage word = followed_by (number_stage word) (λ count. followed_by (compiled_bytes_stage [] false demo_rules) (summary_stage count))
+demo_stage word =
+    followed_by (passing (IsCount word))
+    (λ count. followed_by (compiled_bytes_stage [] false demo_rules) (λ rules. passing (TellsSummary count rules)))

@@ -11,7 +11,7 @@ use Rattle.rbbi_command.specs.Inputs.{Inputs}
 use Rattle.rbbi_command.specs.declared.refusal.Subject.TheVariants.{Rules, OtherRules}
 use Rattle.rbbi_command.specs.declared.refusal.Refusal.{Refusal}
 use Rattle.rbbi_command.specs.declared.refusal.Refusal.TheVariants.{Fault}
-use Rattle.rbbi_command.specs.Stages.{Stage, followed_by}
+use Rattle.rbbi_command.specs.Stages.{Stage, followed_by, passing}
 use Rattle.rbbi_command.specs.Refusals.{Outcome, printed}
 use Rattle.rbbi_tool.specs.Properties.{property_files}
 use Rattle.rbbi_tool.specs.Basis.{compiled_bytes_stage, compiled_stage}
@@ -73,7 +73,7 @@ IsComparison rules others outcome =
 
 -- whether the rules have the same marks
 abbrev pub comparison_stage : List Rule → List Rule → Stage Outcome
-comparison_stage rules others = record { passes = IsComparison rules others; refuses = λ _. ⊥ }
+comparison_stage rules others = passing (IsComparison rules others)
 
 -- a fault of the rule file, told of the second rule file
 abbrev pub told_of_second : Refusal → Refusal

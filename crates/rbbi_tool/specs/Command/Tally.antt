@@ -10,7 +10,7 @@ use Rattle.rbbi_tally.specs.declared.counts.ValueCount.{ValueCount}
 use Rattle.rbbi_tally.specs.Counts.{segment_count, AreCounts}
 use Rattle.rbbi_command.specs.Settings.{Options}
 use Rattle.rbbi_command.specs.Inputs.{Inputs}
-use Rattle.rbbi_command.specs.Stages.{Stage, followed_by}
+use Rattle.rbbi_command.specs.Stages.{Stage, followed_by, passing}
 use Rattle.rbbi_command.specs.Refusals.{Outcome, printed}
 use Rattle.rbbi_tool.specs.Texts.{text_stage}
 use Rattle.rbbi_tool.specs.Scripts.{script_stage}
@@ -73,7 +73,7 @@ pub record TellTally (basis : Basis) (x : List ℕ) (commands : List Command) (o
   pub is : outcome ≡ printed (counts ++ told)
 
 abbrev pub counts_stage : Basis → List ℕ → List Command → Stage Outcome
-counts_stage basis x commands = record { passes = TellTally basis x commands; refuses = λ _. ⊥ }
+counts_stage basis x commands = passing (TellTally basis x commands)
 
 -- the counts of a text file and of what the edits of a script make of it, by a rule file or a table file
 abbrev pub tally_stage : Options → Inputs → Stage Outcome

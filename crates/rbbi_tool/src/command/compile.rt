@@ -1,4 +1,4 @@
-//! The command `compile`.
+//! The commands `compile` and `upgrade`, which write a table file.
 ghost use Rattle.std.specs.Prelude.{◌≡◌, IfOk};
 ghost use Rattle.rbbi_model.specs.Lines.{compile_line};
 ghost use Rattle.rbbi_tool.specs.Basis.{compiled_stage};
@@ -7,10 +7,11 @@ ghost use Rattle.rbbi_tool.specs.inner.Prepared.{answer_of};
 ghost use Rattle.rbbi_command.specs.Requests.{options_in};
 ghost use Rattle.rbbi_command.specs.Inputs.{inputs_in, AreShort};
 ghost use Rattle.rbbi_tool.specs.Command.Compile.{IsCanonicalOf, compile_stage, table_outcome};
+ghost use Rattle.rbbi_tool.specs.Command.Upgrade.{upgrade_stage};
 
 use crate::prepared::Prepared;
 use crate::properties::properties_of;
-use crate::tables::table_of_rules;
+use crate::tables::{read, table_of_rules};
 use rbbi_command::{Inputs, Name, Options, Output, Refusal, Written};
 use rbbi_table::Table;
 use rbbi_text::Steps;
@@ -48,7 +49,7 @@ fn canonical_from<L: Ledger>(
 }
 
 /// The table's file under this name, in version 2, and the line of the table's numbers.
-pub(super) fn table_output(alloc: Global, table: &Table, name: &str) -> Result<Output, AllocError>
+fn table_output(alloc: Global, table: &Table, name: &str) -> Result<Output, AllocError>
     ensures { IfOk result (λ output. output ≡ table_outcome name.now table.now) }
 {
     let name = Name::new(alloc, name)?;
@@ -77,5 +78,22 @@ pub(crate) fn compile<L: Ledger>(
 {
     let canonical = canonical_from(alloc, options, inputs, steps)?;
     let output = table_output(alloc, &canonical, name)?;
+    Ok(Prepared::Ready(output))
+}
+
+/// The table of a table file of either version: its file of version 2, under this name, and the
+/// line of its numbers. Rows keep their numbers.
+pub(crate) fn upgrade<L: Ledger>(
+    alloc: Global,
+    inputs: &Inputs,
+    name: &str,
+    steps: &mut Steps<L>,
+) -> Result<Prepared, Refusal>
+    requires { AreShort (inputs_in inputs.now) }
+    ensures { Meets (λ output. output) (upgrade_stage (inputs_in inputs.now) name.now)
+        (answer_of result) }
+{
+    let table = read(alloc, inputs.table.bytes(steps))?;
+    let output = table_output(alloc, &table, name)?;
     Ok(Prepared::Ready(output))
 }

@@ -6,12 +6,10 @@ mod conform;
 mod demo;
 mod lines;
 mod same;
-mod upgrade;
 
 pub(crate) use check::check;
-pub(crate) use compile::compile;
+pub(crate) use compile::{compile, upgrade};
 pub(crate) use conform::conform;
 pub(crate) use demo::demo;
 pub(crate) use lines::{breaks, run, tally};
 pub(crate) use same::same;
-pub(crate) use upgrade::upgrade;

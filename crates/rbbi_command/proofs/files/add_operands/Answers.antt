@@ -5,7 +5,7 @@ use Rattle.std.proofs.Math.ListN.{get_or-map}
 use Rattle.rbbi_command.specs.declared.words.command.Operand.TheVariants.{Read}
 use Rattle.rbbi_command.specs.declared.files.Role.TheVariants.{Property}
 use Rattle.rbbi_command.proofs.SourceLemmas.{operands_more}
-use Rattle.rbbi_command.proofs.sources.add_operands.Goals as goal
+use Rattle.rbbi_command.proofs.files.add_operands.Goals as goal
 
 pub loop-i-preserved : goal.loop-i-preserved
 loop-i-preserved c =

@@ -1,5 +1,5 @@
 use Rattle.std.proofs.Common.{⊎_elim, arith}
-use Rattle.rbbi_tool.proofs.in_memory.rbbi_in_memory.Goals as goal
+use Rattle.rbbi_tool.proofs.program.rbbi_in_memory.Goals as goal
 
 pub returns : goal.returns
 returns g c = λ remembered.

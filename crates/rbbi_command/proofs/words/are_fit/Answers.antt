@@ -5,7 +5,7 @@ use Rattle.std.proofs.Math.ListN.{get_or-map}
 use Rattle.rbbi_command.specs.declared.words.command.Operand.TheVariants.{Read}
 use Rattle.rbbi_command.specs.declared.files.Role.TheVariants.{Property}
 use Rattle.rbbi_command.proofs.Fitting.{fitting_ends, fitting_more}
-use Rattle.rbbi_command.proofs.words.operand.are_fit.Goals as goal
+use Rattle.rbbi_command.proofs.words.are_fit.Goals as goal
 
 pub returns-then-not-is_fit : goal.returns-then-not-is_fit
 returns-then-not-is_fit c =

@@ -1,5 +1,5 @@
 use Rattle.std.proofs.Common.{◌≡◌, take}
-use Rattle.rbbi_command.proofs.sources.copies.Given as goal
+use Rattle.rbbi_command.proofs.files.copies.Given as goal
 
 -- the files so far are copied
 abbrev pub invariant-loop-file : goal.invariant-loop-file

@@ -5,7 +5,7 @@ use Rattle.std.proofs.lemmas.Iterator.Consumers.{YieldsList-so_far, YieldsList-t
 use Rattle.std.proofs.lemmas.List.{take_all, length_push}
 use Rattle.std.proofs.lemmas.Str.{length-le-encodes, encodes-chars}
 use Rattle.rbbi_command.proofs.Positions.{ends_after_end, since_after_end, ends_after_other, since_after_other, ends_few, since_few, row_here, column_here}
-use Rattle.rbbi_command.proofs.position.position_of.Goals as goal
+use Rattle.rbbi_command.proofs.refusal.position_of.Goals as goal
 
 -- the characters so far are those before the place where none is left
 front_of : (c : goal.Then-left-eq0) → c.loop-c.yielded ≡ take c.args.place (chars c.args.text.now)

@@ -1,7 +1,7 @@
 use Rattle.std.proofs.Common.{◌≡◌, ◌++◌, map, drop}
 use Rattle.std.specs.String.{string_bytes}
 use Rattle.rbbi_command.specs.Files.{operand_sources}
-use Rattle.rbbi_command.proofs.sources.add_operands.Given as goal
+use Rattle.rbbi_command.proofs.files.add_operands.Given as goal
 
 -- the files so far and those of what is left are all
 abbrev pub invariant-loop-i : goal.invariant-loop-i

@@ -1,7 +1,7 @@
 use Rattle.std.proofs.Common.{inl, inr, subst, ⊎_elim}
 use Rattle.std.proofs.lemmas.Result.{err_from_is_err_and}
 use Rattle.rbbi_tool.specs.Basis.{table_stage}
-use Rattle.rbbi_tool.proofs.command.upgrade.upgrade.Goals as goal
+use Rattle.rbbi_tool.proofs.command.compile.upgrade.Goals as goal
 
 pub returns-in_err-table : goal.returns-in_err-table
 returns-in_err-table g c =

@@ -1,7 +1,7 @@
 use Rattle.std.proofs.Common.{◌≡◌, ◌+◌, length}
 use Rattle.rbbi_model.specs.Lines.{since_line_end}
 use Rattle.rbbi_command.proofs.Positions.{line_ends}
-use Rattle.rbbi_command.proofs.position.position_of.Given as goal
+use Rattle.rbbi_command.proofs.refusal.position_of.Given as goal
 
 -- the row and the column after the characters so far, and how many are left
 abbrev pub invariant-loop-c : goal.invariant-loop-c
