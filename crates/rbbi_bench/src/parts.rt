@@ -3,7 +3,7 @@
 ghost use Rattle.std.specs.Prelude.{◌≡◌, ◌<◌, ◌≤◌, length, IfSome};
 ghost use Rattle.rbbi_text.specs.Bytes.{most_bytes};
 
-use crate::rules::{categories_of, rules_of};
+use crate::rules::rules_of;
 use rbbi_cats::partition;
 use rbbi_positions::positions;
 use rbbi_table::{FrontPlaces, Table};
@@ -27,7 +27,8 @@ pub(crate) fn measure_categories(alloc: Global, bytes: &[u8], rounds: u32) -> Op
 pub(crate) fn measure_positions(alloc: Global, bytes: &[u8], rounds: u32) -> Option<u64>
     requires { length bytes.now ≤ most_bytes }
 {
-    let (rules, cats) = categories_of(alloc, bytes)?;
+    let rules = rules_of(alloc, bytes)?;
+    let cats = partition(alloc, &rules).ok()?;
     let mut count = 0;
     for _ in 0..rounds {
         count = u64::from(positions(alloc, &rules, &cats).ok()?.leaves());

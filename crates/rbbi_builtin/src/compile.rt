@@ -3,13 +3,12 @@ ghost use Rattle.std.specs.Prelude.{◌≡◌, ◌≤◌, ◌⊎◌, length, IfO
 ghost use Rattle.std.specs.Str.{chars};
 ghost use Rattle.rbbi_text.specs.Bytes.{most_bytes};
 ghost use Rattle.rbbi_builtin.specs.Compiling.{CompilesOver, HasFaultOver};
-ghost use Rattle.rbbi_builtin.specs.Filling.{AddsBuiltIn};
 
 use crate::fill::add_asked_for;
 use rbbi_compile::{CompileErr, compile};
 use rbbi_props::PropTable;
 use rbbi_table::Table;
-use std::alloc::Global;
+use std::alloc::{AllocError, Global};
 
 /// The least table of the rules that a text means, with these property files and, for a property
 /// for whose name there is none, what is built in. Where `ignored` holds, `$dictionary` is a
@@ -30,26 +29,11 @@ pub fn compile_over(
     ensures same { files.new ≡ files.old }
 {
     let given = files.len();
-    let table = filled_table(alloc, text, files, ignored);
+    let added = add_asked_for(alloc, text, files);
+    let table = match added {
+        Ok(()) => compile(alloc, text, files, ignored),
+        Err(AllocError) => Err(CompileErr::Memory),
+    };
     files.truncate(given);
     table
-}
-
-/// The same, with what was added left after the files.
-fn filled_table(
-    alloc: Global,
-    text: &str,
-    files: &mut PropTable,
-    ignored: bool,
-) -> Result<Table, CompileErr>
-    requires { length text.now ≤ most_bytes }
-    ensures table { IfOk result (CompilesOver files.old ignored (chars text.now)) }
-    ensures refused { IfErr result (λ e. (e ≡ CompileErr.Memory)
-        ⊎ HasFaultOver files.old ignored (chars text.now) e) }
-    ensures behind { AddsBuiltIn files.old files.new }
-{
-    if add_asked_for(alloc, text, files).is_err() {
-        return Err(CompileErr::Memory);
-    }
-    compile(alloc, text, files, ignored)
 }

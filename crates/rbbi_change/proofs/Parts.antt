@@ -171,17 +171,3 @@ module _ (table : Table) (valid : IsValidTable table) (x y : List ℕ) (at remov
       none_new = λ p from less.
           none_to table y here.at together.new_is short_new other next_new p (omega arith) (omega (arith, ap (λ r. r.at) new_is));
     }
-
-  pub parted_at_edit : (here there : Reached) → AreTogether table x y at here there → at ≤ here.at → (parting : Parting) → parting.from ≡ at →
-      parting.old ≡ here → parting.new ≡ there → ArePartedAt table x y at parting
-  parted_at_edit here there together from parting from_is old_is new_is =
-      let reached = together.reached from in
-      record {
-        up_to = omega arith;
-        same = λ p less. together.same p (omega arith);
-        differ = inl from_is;
-        old = subst (IsReached table x) (sym old_is) reached.0;
-        new = subst (IsReached table y) (sym new_is) reached.1;
-        none_old = λ p low less. together.none_old p low (omega (arith, ap (λ r. r.at) old_is));
-        none_new = λ p low less. together.none_new p low (omega (arith, ap (λ r. r.at) new_is, together.place));
-      }

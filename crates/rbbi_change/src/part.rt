@@ -1,5 +1,5 @@
 //! Where the boundaries of the old and the new text part.
-ghost use Rattle.std.specs.Prelude.{◌≡◌, min};
+ghost use Rattle.std.specs.Prelude.{◌≡◌};
 ghost use Rattle.rbbi_cache.specs.Edits.{IsSpliced};
 ghost use Rattle.rbbi_change.specs.inner.Reaching.{IsQuiet};
 ghost use Rattle.rbbi_change.specs.inner.Parting.{ArePartedAt};
@@ -16,19 +16,6 @@ pub(crate) struct Parting {
     pub(crate) from: u32,
     pub(crate) old: Reached,
     pub(crate) new: Reached,
-}
-
-/// Where two boundaries part that differ.
-fn parted(at: u32, old: Reached, new: Reached) -> Parting
-    ensures from { result.from ≡ min at (min old.at new.at) }
-    ensures old { result.old ≡ old }
-    ensures new { result.new ≡ new }
-{
-    Parting {
-        from: at.min(old.at.min(new.at)),
-        old,
-        new,
-    }
 }
 
 /// Goes on from a boundary of both texts, until boundaries differ or the edit is reached.
@@ -58,7 +45,9 @@ pub(crate) fn part_ways<S: Chars, T: Chars, L: Ledger>(
         let next = next_from(table, old, here.at, marks, steps);
         let other = next_from(table, new, here.at, marks, steps);
         if !is_same(table, next, other) {
-            return parted(edit.at, next, other);
+            let from = edit.at.min(next.at.min(other.at));
+            let (old, new) = (next, other);
+            return Parting { from, old, new };
         }
         here = next;
         there = other;

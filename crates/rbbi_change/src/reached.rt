@@ -51,8 +51,5 @@ pub(crate) fn is_same(table: &Table, this: Reached, that: Reached) -> bool
     ensures { IsTrue result ↔ ((this.at ≡ that.at)
         × (statuses_of table.now this.list ≡ statuses_of table.now that.list)) }
 {
-    if this.at != that.at {
-        return false;
-    }
-    are_same(table, this.list, that.list)
+    this.at == that.at && are_same(table, this.list, that.list)
 }

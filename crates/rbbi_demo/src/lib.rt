@@ -4,7 +4,6 @@
 //! the same [`Summary`] each time.
 #![tactic(auto)]
 
-mod count;
 mod demonstration;
 mod edit;
 mod generator;

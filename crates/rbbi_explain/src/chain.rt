@@ -1,7 +1,10 @@
 //! Chains of rules, and which of two comes first.
 
 /// How a rule ends somewhere, or how it came to a position: the last match of a chain.
-#[derive(Clone, Copy)]
+///
+/// Of two chains the lesser one is chosen: it has fewer rules, or as many and its last rule is the
+/// earlier one of the file, or it is the same and its match is the longer one.
+#[derive(Clone, Copy, PartialEq, Eq, PartialOrd, Ord)]
 pub(crate) struct Last {
     /// How many rules the chain has.
     pub(crate) rules: u32,
@@ -10,24 +13,10 @@ pub(crate) struct Last {
     pub(crate) start: u32,
 }
 
-impl Last {
-    /// Whether this chain is chosen over the other: it has fewer rules, or as many and its last
-    /// rule is the earlier one of the file, or it is the same and its match is the longer one.
-    pub(crate) fn is_before(&self, other: &Last) -> bool {
-        if self.rules != other.rules {
-            return self.rules < other.rules;
-        }
-        if self.rule != other.rule {
-            return self.rule < other.rule;
-        }
-        self.start < other.start
-    }
-}
-
 /// The first of two chains.
 pub(crate) fn first_of(known: Option<Last>, other: Last) -> Last {
     match known {
-        Some(known) if known.is_before(&other) => known,
+        Some(known) if known < other => known,
         _ => other,
     }
 }

@@ -66,7 +66,8 @@ impl Explainer {
         for at in start..text.len() {
             search.step(machine, text.char_at(at, steps), at)?;
             if let Some(front) = search.cut(machine) {
-                return cut_at(alloc, search, front, at + 1);
+                let (rule, complete) = (front.last.rule, at + 1);
+                return explained(alloc, search, Some(front), Reason::Cut { rule, complete });
             }
             let is_front = search.note_fronts(machine, at + 1);
             waits = waits || is_front && at + 1 == boundary;
@@ -74,7 +75,8 @@ impl Explainer {
                 break;
             }
         }
-        matched(alloc, search)
+        let longest = search.longest;
+        explained(alloc, search, longest, Reason::LongestMatch)
     }
 }
 
@@ -119,25 +121,14 @@ fn origins_of(alloc: Global, tagged: &mut Vec<Tagged>) -> Result<Vec<Origin>, Al
     Ok(origins)
 }
 
-/// The segment that a look-ahead rule cuts where its front ends, and that is complete.
-fn cut_at(
+/// The segment up to an ending, for this reason, or of one character if there is none.
+fn explained(
     alloc: Global,
     search: &mut Search,
-    front: Ending,
-    complete: u32,
+    ending: Option<Ending>,
+    reason: Reason,
 ) -> Result<Explanation, AllocError> {
-    let rule = front.last.rule;
-    Ok(Explanation {
-        end: front.place,
-        reason: Reason::Cut { rule, complete },
-        parts: parts_of(alloc, search, front)?,
-        origins: origins_of(alloc, &mut search.tagged)?,
-    })
-}
-
-/// The segment of the longest match, or of one character.
-fn matched(alloc: Global, search: &mut Search) -> Result<Explanation, AllocError> {
-    let Some(ending) = search.longest else {
+    let Some(ending) = ending else {
         return Ok(Explanation {
             end: search.start.saturating_add(1),
             reason: Reason::OneCharacter,
@@ -147,7 +138,7 @@ fn matched(alloc: Global, search: &mut Search) -> Result<Explanation, AllocError
     };
     Ok(Explanation {
         end: ending.place,
-        reason: Reason::LongestMatch,
+        reason,
         parts: parts_of(alloc, search, ending)?,
         origins: origins_of(alloc, &mut search.tagged)?,
     })

@@ -49,7 +49,7 @@ impl Live {
             return Ok(());
         };
         if let Some(known) = self.items.get_mut(found)
-            && reading.last.is_before(&known.last)
+            && reading.last < known.last
         {
             *known = reading;
         }

@@ -26,11 +26,13 @@ pub(crate) struct Leaf {
 /// The positions of rules, and the categories that they read.
 #[derive(Drop)]
 pub(crate) struct Machine {
-    positions: Positions,
+    pub(crate) positions: Positions,
     categories: Categories,
-    leaves: Vec<Leaf>,
+    pub(crate) leaves: Vec<Leaf>,
     /// The row of the first positions of the rules that may be chained into.
-    chained: Vec<u64>,
+    pub(crate) chained: Vec<u64>,
+    /// The span of all words of a row.
+    pub(crate) whole: Span,
     /// The number of look-ahead rules.
     pub(crate) slashes: u32,
     ghost alike: { positions.categories ≡ categories.count },
@@ -41,26 +43,19 @@ fn leaves_of(alloc: Global, positions: &Positions) -> Result<Vec<Leaf>, AllocErr
     let mut leaves = Vec::new(alloc);
     for leaf in 0..positions.leaves() {
         let rule = positions.rule(leaf);
-        let is_known = rule < positions.rules();
-        leaves.push(Leaf {
-            rule,
-            status: if is_known { positions.tag(rule) } else { None },
-            slash: if is_known {
-                positions.slash(rule)
-            } else {
-                None
-            },
-            is_last: positions.is_last(leaf),
-            is_front_last: positions.is_front_last(leaf),
-            span: span_of(positions.followers(leaf)),
-        })?;
+        // Each position is of one of the rules.
+        if rule < positions.rules() {
+            leaves.push(Leaf {
+                rule,
+                status: positions.tag(rule),
+                slash: positions.slash(rule),
+                is_last: positions.is_last(leaf),
+                is_front_last: positions.is_front_last(leaf),
+                span: span_of(positions.followers(leaf)),
+            })?;
+        }
     }
     Ok(leaves)
-}
-
-/// Whether a rule may be chained into.
-fn is_chained(positions: &Positions, rule: u32) -> bool {
-    rule < positions.rules() && positions.chained_into(rule)
 }
 
 /// The row of the first positions of the rules that may be chained into.
@@ -68,7 +63,8 @@ fn chained_row(alloc: Global, positions: &Positions) -> Result<Vec<u64>, AllocEr
     let mut row: Vec<u64> = vec![in alloc; 0; positions.words()]?;
     let words = row.as_mut_slice();
     for leaf in 0..positions.leaves() {
-        if positions.is_first(leaf) && is_chained(positions, positions.rule(leaf)) {
+        let rule = positions.rule(leaf);
+        if positions.is_first(leaf) && rule < positions.rules() && positions.chained_into(rule) {
             insert(words, leaf as usize);
         }
     }
@@ -86,11 +82,13 @@ impl Machine {
         let positions = positions(alloc, rules, &categories)?;
         let leaves = leaves_of(alloc, &positions)?;
         let chained = chained_row(alloc, &positions)?;
+        let (from, to) = (0, chained.len());
         Ok(Machine {
             positions,
             categories,
             leaves,
             chained,
+            whole: Span { from, to },
             slashes: rules.slashes(),
         })
     }
@@ -98,11 +96,6 @@ impl Machine {
     /// What is known of a position, if there is one of this number.
     pub(crate) fn leaf(&self, leaf: usize) -> Option<Leaf> {
         self.leaves.get(leaf).copied()
-    }
-
-    /// The number of positions.
-    pub(crate) fn len(&self) -> usize {
-        self.leaves.len()
     }
 
     /// The row of the positions that read a character.
@@ -122,21 +115,5 @@ impl Machine {
         } else {
             &[]
         }
-    }
-
-    /// The row of the positions that rules begin with.
-    pub(crate) fn firsts(&self) -> &[u64] {
-        self.positions.firsts()
-    }
-
-    /// The span of all words of a row.
-    pub(crate) fn whole(&self) -> Span {
-        let to = self.chained.len();
-        Span { from: 0, to }
-    }
-
-    /// The row of the positions that rules begin with that may be chained into.
-    pub(crate) fn chained(&self) -> &[u64] {
-        &self.chained
     }
 }

@@ -60,13 +60,16 @@ impl Scan {
         }
     }
 
-    /// Adds a character, unless there are too many.
+    /// Adds a character, or ` ..` in place of the first of too many.
     fn add(&mut self, c: char) -> Result<(), AllocError> {
         let is_apart = self.is_apart && self.count > 0;
         self.is_apart = false;
-        self.count = self.count.saturating_add(1);
         if self.count > MOST {
             return Ok(());
+        }
+        self.count += 1;
+        if self.count > MOST {
+            return self.made.text.push_str(" ..");
         }
         if is_apart {
             self.made.text.push(' ')?;
@@ -107,19 +110,6 @@ impl Scan {
         }
         self.add(c)
     }
-
-    /// What was made of the rule.
-    fn finish(self) -> Result<RuleText, AllocError> {
-        let Scan {
-            mut made,
-            count,
-            ..
-        } = self;
-        if count > MOST {
-            made.text.push_str(" ..")?;
-        }
-        Ok(made)
-    }
 }
 
 /// The lines and the texts of rules, in their order, in the text of the file that they were read
@@ -136,7 +126,7 @@ pub fn rule_texts(alloc: Global, text: &str, rules: &Rules) -> Result<Vec<RuleTe
         if let Some(mut scan) = open.take() {
             scan.take(c)?;
             if scan.is_over {
-                texts.push(scan.finish()?)?;
+                texts.push(scan.made)?;
             } else {
                 open = Some(scan);
             }

@@ -40,14 +40,14 @@ pub(crate) struct Search {
     pub(crate) tagged: Vec<Tagged>,
 }
 
-/// Adds the positions of a word of a row, whose first bit is position `first`.
+/// Adds the positions of a word of a row, whose first bit is position `first`. Each is come to by
+/// this chain, with the position's rule as the last one.
 fn offer_word(
     machine: &Machine,
     live: &mut Live,
     first: usize,
     word: u64,
-    rules: u32,
-    start: u32,
+    chain: Last,
 ) -> Result<(), AllocError> {
     let mut left = word;
     for _ in 0..64 {
@@ -56,8 +56,8 @@ fn offer_word(
         }
         let leaf = first.saturating_add(left.trailing_zeros() as usize);
         if let Some(found) = machine.leaf(leaf) {
-            let rule = found.rule;
-            let last = Last { rules, rule, start };
+            let mut last = chain;
+            last.rule = found.rule;
             live.offer(Reading { leaf, last })?;
         }
         left &= left - 1;
@@ -65,29 +65,20 @@ fn offer_word(
     Ok(())
 }
 
-/// Adds the positions that two rows have in common, of the words of a span. They are come to by
-/// the match of the last of so many rules that begins at `start`.
+/// Adds the positions that two rows have in common, of the words of a span. Each is come to by this
+/// chain, with the position's rule as the last one.
 fn offer_common(
     machine: &Machine,
     live: &mut Live,
-    these: &[u64],
-    those: &[u64],
+    (these, those): (&[u64], &[u64]),
     span: Span,
-    rules: u32,
-    start: u32,
+    chain: Last,
 ) -> Result<(), AllocError> {
     for k in span.from..span.to {
         if let Some(this) = these.get(k)
             && let Some(that) = those.get(k)
         {
-            offer_word(
-                machine,
-                live,
-                k.saturating_mul(64),
-                *this & *that,
-                rules,
-                start,
-            )?;
+            offer_word(machine, live, k.saturating_mul(64), *this & *that, chain)?;
         }
     }
     Ok(())
@@ -108,8 +99,8 @@ impl Search {
     pub(crate) fn new(alloc: Global, machine: &Machine) -> Result<Search, AllocError> {
         Ok(Search {
             start: 0,
-            live: Live::new(alloc, machine.len())?,
-            before: Live::new(alloc, machine.len())?,
+            live: Live::new(alloc, machine.leaves.len())?,
+            before: Live::new(alloc, machine.leaves.len())?,
             endings: Vec::new(alloc),
             longest: None,
             fronts: vec![in alloc; None; machine.slashes as usize]?,
@@ -168,30 +159,26 @@ impl Search {
         self.live.clear();
         for reading in &self.before.items {
             if let Some(leaf) = machine.leaf(reading.leaf) {
-                let followers = machine.followers(reading.leaf);
-                let Last { rules, start, .. } = reading.last;
-                let span = leaf.span;
+                let row = machine.followers(reading.leaf);
                 offer_common(
                     machine,
                     &mut self.live,
-                    followers,
-                    readers,
-                    span,
-                    rules,
-                    start,
+                    (row, readers),
+                    leaf.span,
+                    reading.last,
                 )?;
             }
         }
         if at == self.start {
-            let span = machine.whole();
+            let firsts = machine.positions.firsts();
+            let (rules, rule, start) = (1, 0, at);
+            let chain = Last { rules, rule, start };
             offer_common(
                 machine,
                 &mut self.live,
-                machine.firsts(),
-                readers,
-                span,
-                1,
-                at,
+                (firsts, readers),
+                machine.whole,
+                chain,
             )?;
         }
         Ok(())
@@ -209,16 +196,15 @@ impl Search {
         };
         let place = at.saturating_add(1);
         self.longest = Some(Ending { place, last });
-        let rules = last.rules.saturating_add(1);
-        let span = machine.whole();
+        let chained = machine.chained.as_slice();
+        let (rules, rule, start) = (last.rules.saturating_add(1), 0, at);
+        let chain = Last { rules, rule, start };
         offer_common(
             machine,
             &mut self.live,
-            machine.chained(),
-            readers,
-            span,
-            rules,
-            at,
+            (chained, readers),
+            machine.whole,
+            chain,
         )?;
         self.note_tagged(machine)
     }

@@ -24,12 +24,8 @@ fn spells_empty(tree: &Tree) -> bool {
             }
             false
         }
-        Tree::Rep(quant, part) => match quant {
-            Quant::Once => spells_empty(part),
-            Quant::Star => true,
-            Quant::Plus => spells_empty(part),
-            Quant::Quest => true,
-        },
+        Tree::Rep(Quant::Star | Quant::Quest, _) => true,
+        Tree::Rep(Quant::Once | Quant::Plus, part) => spells_empty(part),
     }
 }
 

@@ -1,5 +1,5 @@
 //! What is found in a rule file.
-ghost use Rattle.std.specs.Prelude.{◌≤◌, length, IfOk, OnOk, IsTrue};
+ghost use Rattle.std.specs.Prelude.{◌≤◌, length, IfOk, OnOk};
 ghost use Rattle.std.specs.List.{All};
 ghost use Rattle.std.specs.Str.{chars};
 ghost use Rattle.rbbi_text.specs.Bytes.{most_bytes};
@@ -41,25 +41,6 @@ fn tokens_of(alloc: Global, text: &str) -> Result<Tokens, AllocError>
     }
 }
 
-/// Whether leaving a piece out of a text with this table changes nothing.
-fn is_idle(
-    alloc: Global,
-    text: &str,
-    table: &Table,
-    piece: Piece,
-    props: &PropTable,
-    ignored: bool,
-) -> Result<bool, AllocError>
-    requires { length text.now ≤ most_bytes }
-    ensures { IfOk result (λ idle.
-        IsTrue idle → ChangesNothing props.now ignored (chars text.now) table.now piece) }
-{
-    match effect_of(alloc, text, table, piece, props, ignored)? {
-        Effect::Nothing => Ok(true),
-        Effect::Marks(_) | Effect::Fault(_) => Ok(false),
-    }
-}
-
 /// Adds a piece to those that change nothing, if it is one, and answers whether it is.
 fn add_if_idle(
     alloc: Global,
@@ -75,9 +56,10 @@ fn add_if_idle(
         All (ChangesNothing props.now ignored (chars text.now) table.now) idle.old.items
         → All (ChangesNothing props.now ignored (chars text.now) table.now) idle.new.items) }
 {
-    if !is_idle(alloc, text, table, piece, props, ignored)? {
+    let effect = effect_of(alloc, text, table, piece, props, ignored)?;
+    let Effect::Nothing = effect else {
         return Ok(false);
-    }
+    };
     idle.push(piece)?;
     Ok(true)
 }

@@ -30,22 +30,15 @@ fn numbered(alloc: Global, text: &str, statements: &[Statement<'_>]) -> Result<S
     let mut number = 1u32;
     let mut place = 0u32;
     for c in text.chars() {
-        if let Some(here) = rule
-            && place == here.tag
-        {
+        let (tag, end) = rule.map_or((u32::MAX, u32::MAX), |here| (here.tag, here.end));
+        if place == tag {
             write!(made, " {{{number}}}")?;
             number = number.saturating_add(1);
         }
-        let is_tag = match rule {
-            Some(here) => here.tag <= place && place < here.end,
-            None => false,
-        };
-        if !is_tag {
+        if place < tag || end <= place {
             made.push(c)?;
         }
-        if let Some(here) = rule
-            && place == here.end
-        {
+        if place == end {
             rule = left.next();
         }
         place = place.saturating_add(1);

@@ -205,20 +205,6 @@ module _ {A Setting : Type 0} (view : View A Setting) (old now : A) where
       ap (cost_of_nexts view old) listed.whole ∙ nexts_parts view old listed.done listed.rest in
       record { more = listed.paid.more; cost = omega (arith, listed.paid.cost, all) }
 
-  -- none is left
-  all_done : (before after : List ℕ) (start steps : ℕ) (listed : IsListed view old now None before after start steps) → reported view old ≡ listed.done
-  all_done before after start steps listed = listed.whole ∙ ap (λ bs. listed.done ++ bs) listed.stands ∙ append-nil listed.done
-
-  pub listed_all : (before after : List ℕ) (start steps : ℕ) → IsListed view old now None before after start steps →
-      after ≡ before ++ boundary_lines (reported view old)
-  listed_all before after start steps listed =
-      listed.appended ∙ ap (λ bs. before ++ boundary_lines bs) (sym (all_done before after start steps listed))
-
-  pub asked_all : (before after : List ℕ) (start steps : ℕ) → IsListed view old now None before after start steps →
-      AsksNexts view (reported view old) old now start steps
-  asked_all before after start steps listed =
-      subst (λ bs. AsksNexts view bs old now start steps) (sym (all_done before after start steps listed)) listed.asked
-
 module _ {A Setting : Type 0} (view : View A Setting) (cover : Cover view) (old now new : A) (cursor start middle steps : ℕ)
     (same : IsSameText view old now) (at : cursor ≡ (view.state old).cursor) (here : IsPlaceOf (reported view old) cursor)
     (asked : IsAsked view now (IsBoundary cursor) new middle steps) where

@@ -24,14 +24,8 @@ pub(crate) struct Opened {
     pub(crate) marks: FrontPlaces,
 }
 
-/// A piece, and the boundary after it.
-#[derive(Drop)]
-struct Filled {
-    piece: Piece,
-    next: u32,
-}
-
-/// Searches from a boundary on, until a piece is filled or the text ends.
+/// Searches from a boundary on, until a piece is filled or the text ends. It gives the piece and the
+/// boundary after it.
 fn fill<T: Chars, L: Ledger>(
     alloc: Global,
     table: &Table,
@@ -40,14 +34,14 @@ fn fill<T: Chars, L: Ledger>(
     counts: &mut [u32],
     marks: &mut FrontPlaces,
     steps: &mut Steps<L>,
-) -> Result<Filled, AllocError>
+) -> Result<(Piece, u32), AllocError>
     requires within { start < length (T.characters text.now) }
     requires fit { marks.old ≡ table.now.slashes }
     requires lists { length counts.old ≡ length table.now.lists }
     requires few { (list : ℕ) → list < length counts.old →
         slice_index counts.old list ≤ start }
     ensures filled { IfOk result (λ filled. FillsPiece table.now (T.characters text.now) start
-        filled.piece filled.next counts.old counts.new steps.old steps.new) }
+        filled.0 filled.1 counts.old counts.new steps.old steps.new) }
     ensures err { OnErr result (steps.new ≡ steps.old) }
     ensures fit { marks.new ≡ marks.old }
 {
@@ -57,10 +51,7 @@ fn fill<T: Chars, L: Ledger>(
     while place < len && items.len() < FILLED {
         place = search_from(table, text, place, start, &mut items, counts, marks, steps);
     }
-    Ok(Filled {
-        piece: Piece::new(start, items),
-        next: place,
-    })
+    Ok((Piece::new(start, items), place))
 }
 
 /// Searches from each boundary of the text.
@@ -82,8 +73,8 @@ pub(crate) fn segments_of<T: Chars, L: Ledger>(
     let mut place = 0;
     while place < len {
         let filled = fill(alloc, table, text, place, &mut counts, &mut marks, steps)?;
-        pieces.push(filled.piece)?;
-        place = filled.next;
+        pieces.push(filled.0)?;
+        place = filled.1;
     }
     Ok(Opened {
         pieces,

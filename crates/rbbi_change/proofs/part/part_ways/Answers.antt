@@ -1,4 +1,4 @@
-use Rattle.std.proofs.Common.{refl, ◌∙◌, arith}
+use Rattle.std.proofs.Common.{refl, ap, ◌∙◌, arith, min}
 use Rattle.std.proofs.lemmas.Bool.{false≢true}
 use Rattle.rbbi_change.specs.declared.reached.Reached.{Reached}
 use Rattle.rbbi_change.proofs.Parts.{together_first, together_next, parted_next, goes_on}
@@ -19,7 +19,9 @@ returns-then-not-is_same-clause-parted g c =
     parted_next c.args.table.now c.valid.ensures (g.S.Chars.characters c.args.old.now) (g.T.Chars.characters c.args.new.now) c.args.edit.at
     c.args.edit.removed c.args.edit.inserted c.requires.edited c.parting.here c.parting.there c.parting.invariant.together c.parting-test.true
     c.next_from-next.result c.next_from-other.result c.next_from-next.ensures.next c.next_from-other.ensures.next
-    (λ same. false≢true (c.if-not-is_same.ensures.1 same)) c.parted.result c.parted.ensures.from c.parted.ensures.old c.parted.ensures.new
+    (λ same. false≢true (c.if-not-is_same.ensures.1 same))
+    (record { from = c.min-from.result; old = c.next_from-next.result; new = c.next_from-other.result })
+    (c.min-from.ensures ∙ ap (λ k. min c.args.edit.at k) c.min.ensures) refl refl
 
 pub parting-smaller : goal.parting-smaller
 parting-smaller g c =

@@ -10,4 +10,4 @@ pub returns : goal.returns
 returns c =
     let P : Piece → Type 0 = ChangesNothing c.args.props.now c.args.ignored (chars c.args.text.now) c.args.table.now in
     let items : c.push.new.self.items ≡ c.args.idle.now.items ++ c.args.piece ∷ [] = grind (arith, common_steps) in
-    λ all. subst (All P) (sym items) (All-push P c.args.idle.now.items c.args.piece all (c.in_ok-is_idle.ensures (grind arith)))
+    λ all. subst (All P) (sym items) (All-push P c.args.idle.now.items c.args.piece all (rw c.in-Nothing.is at c.in_ok-effect.ensures))

@@ -33,9 +33,9 @@ returns-in_err-push-clause-reads g c =
     let inv = c.loop-place.invariant in
     let fills = c.in_ok-filled.ensures.filled in
     let old : List Segment = contents c.loop-place.pieces.items in
-    let new : List Segment = segments_in c.in_ok-filled.filled.piece in
-    let few = reads_up_to table x c.in_ok-filled.filled.next (old ++ new)
-    (segments_joined table x 0 c.loop-place.place c.in_ok-filled.filled.next old new inv.segments fills.segments) fills.within in
+    let new : List Segment = segments_in c.in_ok-filled.filled.0 in
+    let few = reads_up_to table x c.in_ok-filled.filled.1 (old ++ new)
+    (segments_joined table x 0 c.loop-place.place c.in_ok-filled.filled.1 old new inv.segments fills.segments) fills.within in
     let both = sum_by-append (λ s. characters_read table x s.at) old new in
     record { more = omega (arith, inv.read, fills.read); cost = omega (arith, inv.read, fills.read, few, both) }
 
@@ -46,17 +46,17 @@ loop-place-preserved g c =
     let inv = c.loop-place.invariant in
     let fills = c.in_ok-filled.ensures.filled in
     let old : List Segment = contents c.loop-place.pieces.items in
-    let new : List Segment = segments_in c.in_ok-filled.filled.piece in
-    let place = c.in_ok-filled.filled.next in
+    let new : List Segment = segments_in c.in_ok-filled.filled.0 in
+    let place = c.in_ok-filled.filled.1 in
     let are : contents c.push.new.self.items ≡ old ++ new =
-    ap contents c.in_ok-push.ensures.items ∙ contents_push c.loop-place.pieces.items c.in_ok-filled.filled.piece in
+    ap contents c.in_ok-push.ensures.items ∙ contents_push c.loop-place.pieces.items c.in_ok-filled.filled.0 in
     let counts = c.fill.new.counts in
     let value : c.deref_mut.result.now ≡ c.loop-place.counts.items = c.deref_mut.ensures.value in
     let written = refilled counts c.loop-place.counts.items c.loop-place.counts.len c.loop-place.counts.ok.0 (fills.counted.all ∙ ap length value) in
     record {
       are_pieces =
           subst ArePieces (sym c.in_ok-push.ensures.items)
-          (all_append IsPiece c.loop-place.pieces.items (c.in_ok-filled.filled.piece ∷ []) inv.are_pieces (fills.is, tt));
+          (all_append IsPiece c.loop-place.pieces.items (c.in_ok-filled.filled.0 ∷ []) inv.are_pieces (fills.is, tt));
       segments =
           subst (AreSegments table x 0 place) (sym are) (segments_joined table x 0 c.loop-place.place place old new inv.segments fills.segments);
       within = fills.within;

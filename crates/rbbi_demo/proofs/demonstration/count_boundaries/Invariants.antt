@@ -1,7 +1,7 @@
 use Rattle.std.proofs.Common.{length}
 use Rattle.rbbi_session.proofs.Stepping.{left_of}
 use Rattle.rbbi_demo.proofs.Counting.{AreCounted}
-use Rattle.rbbi_demo.proofs.count.count_boundaries.Given as goal
+use Rattle.rbbi_demo.proofs.demonstration.count_boundaries.Given as goal
 
 abbrev pub invariant-loop-place : goal.invariant-loop-place
 invariant-loop-place g l = AreCounted l.fn.session l.session l.place l.count

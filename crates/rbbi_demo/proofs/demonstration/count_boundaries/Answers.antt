@@ -1,7 +1,7 @@
 use Rattle.std.proofs.Common.{◌<◌, length, sym, subst}
 use Rattle.rbbi_session.proofs.Stepping.{left_of}
 use Rattle.rbbi_demo.proofs.Counting.{AreCounted, counted_start, counted_further}
-use Rattle.rbbi_demo.proofs.count.count_boundaries.Goals as goal
+use Rattle.rbbi_demo.proofs.demonstration.count_boundaries.Goals as goal
 
 pub loop-place-init : goal.loop-place-init
 loop-place-init g c = counted_start c.args.session.now c.first.new.self c.first.result c.first.ensures.answers
