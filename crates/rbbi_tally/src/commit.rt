@@ -16,6 +16,7 @@ use crate::kept::Kept;
 use crate::piece::{FILLED, FULL, Piece, reach_of};
 use crate::spot::Spot;
 use std::alloc::{AllocError, Global};
+use std::mem;
 
 /// Adds what is left, from a spot on, of the piece that the spot is in, moved by an edit. It gives
 /// the number of the first piece after that.
@@ -173,30 +174,37 @@ fn insert_one(pieces: &mut Vec<Piece>, front: usize, piece: Piece)
 
 /// Inserts segments after the first pieces, and returns how many pieces it added. Without memory
 /// for pieces of the usual size it makes one of all, for which there is room.
-fn put(alloc: Global, pieces: &mut Vec<Piece>, front: usize, start: u32, items: Vec<Kept>) -> usize
+fn put(
+    alloc: Global,
+    pieces: &mut Vec<Piece>,
+    front: usize,
+    start: u32,
+    items: &mut Vec<Kept>,
+) -> usize
     requires pieces { ArePieces pieces.old.items }
     requires within { front ≤ length pieces.old.items }
     requires room { vec_len pieces.old < vec_capacity pieces.old }
-    requires small { AllByRecursion FitText (segments_by start items.items) }
-    requires rise { IsRising (map at_of items.items) }
-    requires begin { place_of (segments_by start items.items) start ≡ start }
+    requires small { AllByRecursion FitText (segments_by start items.old.items) }
+    requires rise { IsRising (map at_of items.old.items) }
+    requires begin { place_of (segments_by start items.old.items) start ≡ start }
     requires behind { AllByRecursion (λ piece. piece.start ≤ start) (take front pieces.old.items) }
     ensures pieces { ArePieces pieces.new.items }
     ensures front { contents (take (front + result) pieces.new.items)
-        ≡ contents (take front pieces.old.items) ++ segments_by start items.items }
+        ≡ contents (take front pieces.old.items) ++ segments_by start items.old.items }
     ensures rest { drop (front + result) pieces.new.items ≡ drop front pieces.old.items }
     ensures len { length pieces.new.items ≡ length pieces.old.items + result }
 {
-    if items.is_empty() || extend(pieces, front, start, &items) {
+    if items.is_empty() || extend(pieces, front, start, items) {
         return 0;
     }
-    if let Ok(new) = pieces_of(alloc, start, &items) {
+    if let Ok(new) = pieces_of(alloc, start, items) {
         let count = new.len();
         if insert_all(pieces, front, new) {
             return count;
         }
     }
-    insert_one(pieces, front, Piece::new(start, items));
+    let own = mem::replace(items, Vec::new(alloc));
+    insert_one(pieces, front, Piece::new(start, own));
     1
 }
 
@@ -237,7 +245,7 @@ fn join(pieces: &mut Vec<Piece>, number: usize)
 pub(crate) fn commit(
     alloc: Global,
     pieces: &mut Vec<Piece>,
-    items: Vec<Kept>,
+    items: &mut Vec<Kept>,
     start: u32,
     first: Spot,
     met: Spot,
@@ -249,26 +257,25 @@ pub(crate) fn commit(
     requires order { IsUpTo first met }
     requires movable { AllByRecursion (CanMove edit start)
         (segments_from pieces.old.items met) }
-    requires room { vec_len items + length (segments_from pieces.old.items met)
-        ≤ vec_capacity items }
+    requires room { vec_len items.old + length (segments_from pieces.old.items met)
+        ≤ vec_capacity items.old }
     requires room_for_one { vec_len pieces.old < vec_capacity pieces.old }
     requires before { AllByRecursion (λ segment. segment.at < start)
         (segments_before pieces.old.items first) }
-    requires begin { place_of (segments_by start items.items ++ map
+    requires begin { place_of (segments_by start items.old.items ++ map
         (moved edit.removed edit.inserted) (segments_from pieces.old.items met)) start ≡ start }
     requires rise { IsRising (map (λ segment. segment.at)
-        (segments_before pieces.old.items first ++ (segments_by start items.items ++ map
+        (segments_before pieces.old.items first ++ (segments_by start items.old.items ++ map
         (moved edit.removed edit.inserted) (segments_from pieces.old.items met)))) }
     requires small { AllByRecursion FitText
-        (segments_before pieces.old.items first ++ (segments_by start items.items ++ map
+        (segments_before pieces.old.items first ++ (segments_by start items.old.items ++ map
         (moved edit.removed edit.inserted) (segments_from pieces.old.items met))) }
     ensures pieces { ArePieces pieces.new.items }
     ensures contents { contents pieces.new.items
-        ≡ segments_before pieces.old.items first ++ (segments_by start items.items ++ map
+        ≡ segments_before pieces.old.items first ++ (segments_by start items.old.items ++ map
         (moved edit.removed edit.inserted) (segments_from pieces.old.items met)) }
 {
-    let mut items = items;
-    let past = keep_tail(pieces, &mut items, start, met, edit);
+    let past = keep_tail(pieces, items, start, met, edit);
     let front = cut_at(pieces, first);
     shift_behind(pieces, past, edit);
     let count = put(alloc, pieces, front, start, items);

@@ -8,6 +8,7 @@ ghost use Rattle.rbbi_tally.specs.Tallies.{boundaries_of, EditAnswers, EditReads
 use crate::commit::commit;
 use crate::counts::{Counts, count_of, total, values_of};
 use crate::edit::Edit;
+use crate::kept::Kept;
 use crate::open::segments_of;
 use crate::piece::Piece;
 use crate::search::search_again;
@@ -25,7 +26,9 @@ use std::sync::ledger::Ledger;
 /// the search from there looked. So an edit searches from the first boundary whose search looked
 /// past the edit's place, up to where the boundaries are old ones moved. It moves the segments of
 /// the pieces that it touches, and one number for each piece after. It takes eight bytes a
-/// boundary, and room for 512 further ones with each 1,536.
+/// boundary, and room for 512 further ones with each 1,536. Room for what an edit may find stays
+/// with the tally: eight bytes for each character of the longest rest of the text that an edit
+/// had, and up to twice that once it has grown.
 #[derive(Drop)]
 pub struct Tally<'a, T: EditText> {
     table: &'a Table,
@@ -35,6 +38,8 @@ pub struct Tally<'a, T: EditText> {
     counts: Vec<u32>,
     /// Scratch space of searches.
     marks: FrontPlaces,
+    /// Room for what an edit finds. It is kept from one edit to the next.
+    room: Vec<Kept>,
     /// Where the memory of further pieces comes from.
     alloc: Global,
 }
@@ -74,6 +79,7 @@ impl<'a, T: EditText + Drop> Tally<'a, T> {
             pieces: opened.pieces,
             counts: opened.counts,
             marks: opened.marks,
+            room: Vec::new(alloc),
             alloc,
         })
     }
@@ -86,7 +92,8 @@ impl<'a, T: EditText> Tally<'a, T> {
     /// Refuses `Outside` if the text has fewer than `at + remove` characters, and otherwise
     /// `TooLong` if it would have more than 16,777,216 characters. After a refusal, also for
     /// memory, text and counts are as before, and nothing was read. All memory that can be refused
-    /// is taken before the text is edited: room for all boundaries that the new text can have.
+    /// is taken before the text is edited: room for all boundaries that the new text can have,
+    /// which later edits use again.
     pub fn replace<L: Ledger>(
         &mut self,
         at: u32,
@@ -109,7 +116,9 @@ impl<'a, T: EditText> Tally<'a, T> {
         let first = first_reaching(&self.pieces, at);
         let start = place_at(&self.pieces, first, end);
         // From `start` on the new text has at most one boundary a character, and one more.
-        let mut items = Vec::with_capacity(self.alloc, (end - remove + inserted - start) as usize)?;
+        self.room.clear();
+        self.room
+            .reserve((end - remove + inserted - start) as usize)?;
         self.pieces.reserve(1)?;
         self.text.replace(at, remove, insert)?;
         let met = search_again(
@@ -120,7 +129,7 @@ impl<'a, T: EditText> Tally<'a, T> {
             start,
             edit,
             end,
-            &mut items,
+            &mut self.room,
             &mut self.counts,
             &mut self.marks,
             steps,
@@ -128,7 +137,7 @@ impl<'a, T: EditText> Tally<'a, T> {
         commit(
             self.alloc,
             &mut self.pieces,
-            items,
+            &mut self.room,
             start,
             first,
             met.spot,

@@ -13,11 +13,11 @@ use Rattle.rbbi_tally.proofs.commit.commit.Goals.{After-keep_tail-past, After-cu
 -- the segments that are put in, and those behind them
 tail : (c : After-keep_tail-past) → segments_by c.args.start c.keep_tail-past.new.items.items
     ++ map (moved c.args.edit.removed c.args.edit.inserted) (contents (drop c.keep_tail-past.result c.deref.result.now))
-    ≡ segments_by c.args.start c.args.items.items
+    ≡ segments_by c.args.start c.args.items.now.items
     ++ map (moved c.args.edit.removed c.args.edit.inserted) (segments_from c.args.pieces.now.items c.args.met)
 tail c =
     c.keep_tail-past.ensures.tail
-    ∙ ap (λ l. segments_by c.args.start c.args.items.items ++ map (moved c.args.edit.removed c.args.edit.inserted) (segments_from l c.args.met))
+    ∙ ap (λ l. segments_by c.args.start c.args.items.now.items ++ map (moved c.args.edit.removed c.args.edit.inserted) (segments_from l c.args.met))
     c.deref.ensures.value
 
 order : (c : After-cut_at-front) → c.cut_at-front.result ≤ c.keep_tail-past.result
@@ -26,7 +26,7 @@ order c =
     c.keep_tail-past.ensures.past_cut c.cut_at-front.ensures.whole c.cut_at-front.ensures.parted
 
 all : (c : After-remove) → contents c.remove.new.pieces.items ≡ segments_before c.args.pieces.now.items c.args.first
-    ++ (segments_by c.args.start c.args.items.items ++ map (moved c.args.edit.removed c.args.edit.inserted)
+    ++ (segments_by c.args.start c.args.items.now.items ++ map (moved c.args.edit.removed c.args.edit.inserted)
     (segments_from c.args.pieces.now.items c.args.met))
 all c =
     let order' = front_before c.args.first c.args.met c.cut_at-front.result c.keep_tail-past.result c.requires.order c.keep_tail-past.ensures.past
@@ -35,7 +35,7 @@ all c =
     c.deref.ensures.value order' c.cut_at-front.ensures.front c.cut_at-front.ensures.rest c.shift_behind.ensures.before c.shift_behind.ensures.behind
     c.put-count.ensures.front c.put-count.ensures.rest
     (c.keep_tail-past.ensures.tail
-    ∙ ap (λ l. segments_by c.args.start c.args.items.items ++ map (moved c.args.edit.removed c.args.edit.inserted) (segments_from l c.args.met))
+    ∙ ap (λ l. segments_by c.args.start c.args.items.now.items ++ map (moved c.args.edit.removed c.args.edit.inserted) (segments_from l c.args.met))
     c.deref.ensures.value)
     c.remove.ensures
 
@@ -64,17 +64,17 @@ remove-requires-clause-order c = omega (arith, order (goal.at.remove-requires-cl
 
 pub put-count-requires-clause-small : goal.put-count-requires-clause-small
 put-count-requires-clause-small c =
-    new_fit c.args.edit c.args.start (segments_before c.args.pieces.now.items c.args.first) _ c.args.items.items _ _
+    new_fit c.args.edit c.args.start (segments_before c.args.pieces.now.items c.args.first) _ c.args.items.now.items _ _
     (tail (goal.at.put-count-requires-clause-small c).After-keep_tail-past) c.requires.small
 
 pub put-count-requires-clause-rise : goal.put-count-requires-clause-rise
 put-count-requires-clause-rise c =
-    new_rise c.args.edit c.args.start (segments_before c.args.pieces.now.items c.args.first) _ c.args.items.items _ _
+    new_rise c.args.edit c.args.start (segments_before c.args.pieces.now.items c.args.first) _ c.args.items.now.items _ _
     (tail (goal.at.put-count-requires-clause-rise c).After-keep_tail-past) c.requires.rise
 
 pub put-count-requires-clause-begin : goal.put-count-requires-clause-begin
 put-count-requires-clause-begin c =
-    new_begin c.args.edit c.args.start (segments_before c.args.pieces.now.items c.args.first) _ c.args.items.items _ _
+    new_begin c.args.edit c.args.start (segments_before c.args.pieces.now.items c.args.first) _ c.args.items.now.items _ _
     (tail (goal.at.put-count-requires-clause-begin c).After-keep_tail-past) c.requires.begin
 
 pub join-requires-clause-rise : goal.join-requires-clause-rise

@@ -21,26 +21,26 @@ use Rattle.rbbi_tally.proofs.tally.Tally.replace.Goals.{After-deref_mut, After-s
 -- where the old text's segments part, by the pieces as they are when the search begins
 abbrev parts : (g : Over) (c : After-deref_mut g) → Parts c.self.inside.table.now (g.T.Chars.characters c.self.inside.text)
     (g.T.Chars.characters c.replace.new.self) (record { at = c.args.at; removed = c.args.remove; inserted = c.in_ok-inserted.inserted })
-    (segments_before c.reserve.new.self.items c.first_reaching-first.result) (segments_from c.reserve.new.self.items c.first_reaching-first.result)
+    (segments_before c.reserve-2.new.self.items c.first_reaching-first.result) (segments_from c.reserve-2.new.self.items c.first_reaching-first.result)
     c.place_at-start.result
 parts g c =
     parts_are (record { at = c.args.at; removed = c.args.remove; inserted = c.in_ok-inserted.inserted }) (chars c.args.insert.now)
     c.first_reaching-first.result c.self.invariant c.valid.ensures c.deref.ensures.value c.first_reaching-first.ensures.first c.deref-2.ensures.value
-    c.place_at-start.ensures c.len-end.ensures.exact c.in_ok-replace.ensures.0 c.in_ok-inserted.ensures.2 c.in_ok-replace.ensures.2 c.reserve.ensures.items
+    c.place_at-start.ensures c.len-end.ensures.exact c.in_ok-replace.ensures.0 c.in_ok-inserted.ensures.2 c.in_ok-replace.ensures.2 c.reserve-2.ensures.items
 
 small : (g : Over) (c : After-deref_mut g) → length (g.T.Chars.characters c.replace.new.self) ≤ most_characters
 small g c = omega (arith, lengths (parts g c), c.in_ok-inserted.ensures.1, c.in_ok-inserted.ensures.0, c.len-end.ensures.exact)
 
 counted : (g : Over) (c : After-deref_mut g) → AreCountsOf (length c.self.inside.table.now.lists)
-    (segments_before c.reserve.new.self.items c.first_reaching-first.result ++ segments_from c.reserve.new.self.items c.first_reaching-first.result)
+    (segments_before c.reserve-2.new.self.items c.first_reaching-first.result ++ segments_from c.reserve-2.new.self.items c.first_reaching-first.result)
     c.deref_mut.result.now
-counted g c = counted_is c.first_reaching-first.result c.self.invariant c.reserve.ensures.items c.deref_mut.ensures.value
+counted g c = counted_is c.first_reaching-first.result c.self.invariant c.reserve-2.ensures.items c.deref_mut.ensures.value
 
 met : (g : Over) (c : After-search_again-met g) → AreMet c.self.inside.table.now (g.T.Chars.characters c.replace.new.self)
     (record { at = c.args.at; removed = c.args.remove; inserted = c.in_ok-inserted.inserted }) c.place_at-start.result
-    (segments_from c.reserve.new.self.items c.first_reaching-first.result) (length (g.T.Chars.characters c.self.inside.text))
+    (segments_from c.reserve-2.new.self.items c.first_reaching-first.result) (length (g.T.Chars.characters c.self.inside.text))
     (segments_by c.place_at-start.result c.search_again-met.new.items.items) c.search_again-met.result.place
-    (segments_from c.reserve.new.self.items c.search_again-met.result.spot) c.deref_mut.result.now c.search_again-met.new.counts
+    (segments_from c.reserve-2.new.self.items c.search_again-met.result.spot) c.deref_mut.result.now c.search_again-met.new.counts
 met g c = met_is_of c.first_reaching-first.result c.search_again-met.result.spot c.search_again-met.ensures.met c.deref-3.ensures.value c.len-end.ensures.exact
 
 pub overflow_sub-end-2 : goal.overflow_sub-end-2
@@ -61,7 +61,7 @@ overflow_sub-end-2 g c =
 pub search_again-met-requires-clause-rise : goal.search_again-met-requires-clause-rise
 search_again-met-requires-clause-rise g c =
     subst (λ l. IsRising (places_to (segments_from l c.first_reaching-first.result) c.len-end.result)) (sym c.deref-3.ensures.value)
-    (subst (λ n. IsRising (places_to (segments_from c.reserve.new.self.items c.first_reaching-first.result) n)) (sym c.len-end.ensures.exact)
+    (subst (λ n. IsRising (places_to (segments_from c.reserve-2.new.self.items c.first_reaching-first.result) n)) (sym c.len-end.ensures.exact)
     (old_rise (parts g (goal.at.search_again-met-requires-clause-rise g c).After-deref_mut)))
 
 pub search_again-met-requires-clause-start : goal.search_again-met-requires-clause-start
@@ -90,7 +90,7 @@ commit-requires-clause-room g c =
     let parts' = parts g at.After-deref_mut in
     let room = room_is parts' (met g at.After-search_again-met) in
     let long = length-map c.search_again-met.new.items.items (segment_of c.place_at-start.result) in
-    omega (arith, lengths parts', c.search_again-met.ensures.room, c.in_ok-items.ensures.exact, c.len-end.ensures.exact)
+    omega (arith, lengths parts', c.search_again-met.ensures.room, c.in_ok-reserve.ensures.ok, c.len-end.ensures.exact)
 
 pub commit-requires-clause-before : goal.commit-requires-clause-before
 commit-requires-clause-before g c = before_start (parts g (goal.at.commit-requires-clause-before g c).After-deref_mut)
