@@ -82,6 +82,9 @@ pub(crate) fn counted_on<L: Ledger>(
     requires small { offset_of unit text.now (length text.now) < 2 ^ 32 }
     ensures { result ≡ offset_of unit text.now to }
 {
+    if let Unit::Chars = unit {
+        return to;
+    }
     let mut reached = offset;
     for at in from..to {
         reached += size(text.char_at(at, steps), unit);
