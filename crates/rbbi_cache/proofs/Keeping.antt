@@ -1,5 +1,5 @@
 -- What is kept after an answer.
-use Rattle.std.proofs.Common.{◌≡◌, ℕ, ◌-◌, ◌<◌, ◌≤◌, Bool, true, false, List, [], ◌∷◌, ◌++◌, length, map, sym, refl, ap, ◌∙◌, subst, inr, ⊎_elim, arith}
+use Rattle.std.proofs.Common.{◌≡◌, ℕ, ◌+◌, ◌⊎◌, ◌-◌, ◌<◌, ◌≤◌, Bool, true, false, List, [], ◌∷◌, ◌++◌, length, map, sym, refl, ap, ◌∙◌, subst, inr, ⊎_elim, arith}
 use Rattle.std.specs.List.{AllByRecursion}
 use Rattle.std.proofs.lemmas.List.{append-nil}
 use Rattle.rbbi_model.specs.Tables.{Table}
@@ -35,6 +35,8 @@ module _ (table : Table) (valid : IsValidTable table) (x : List ℕ) where
     anchor = let within = anchor_within run.anchor is_true.anchor in omega arith;
     rising = entries_rise table valid x run is_true;
     within = facts.all_by_splits (λ e. e.at ≤ most) run.entries (λ front e rest whole. let within = entry_within run is_true front e rest whole in omega arith);
+    behind = all_through (λ e. (run.anchor ≡ 0) ⊎ (run.anchor + 2 ≤ e.at)) (λ e. run.anchor ≤ e.at)
+        (λ e place. ⊎_elim (λ zero. omega arith) (λ far. omega arith) place) run.entries is_true.places;
   }
 
   pub all_ordered : (most : ℕ) → length x ≤ most → (runs : List Run) → AreTrueRuns table x runs → AllByRecursion (IsOrdered most) runs

@@ -19,6 +19,7 @@ pub mod Extending
 pub mod Walks
 pub mod Goes
 pub mod Showing
+mod Quieting
 pub mod RunLists
 pub mod Members
 pub mod Nearer

@@ -9,36 +9,25 @@ use Rattle.rbbi_model.specs.Words.{most_characters}
 use Rattle.rbbi_model.specs.Tables.{Table}
 use Rattle.rbbi_model.specs.SafePairs.{is_safe}
 use Rattle.rbbi_model.specs.ValidTables.{IsValidTable}
-use Rattle.rbbi_model.specs.Runs.{Run, category_at, boundary_of, IsTrueRun}
+use Rattle.rbbi_model.specs.Runs.{Run, category_at, IsTrueRun}
 use Rattle.rbbi_model.proofs.Lists.{all_take}
 use Rattle.rbbi_cache.specs.Kept.{AreTrueRuns, most_runs}
 use Rattle.rbbi_cache.specs.Edits.{IsSpliced, begins_pair, IsFirstPair, HasNoPair, left_part, moved_run, goes_whole, IsRightPart, Whole, Behind}
 use Rattle.rbbi_cache.specs.Edits.{Nothing, has_entries, AreParts, AreKeptAfter}
 use Rattle.rbbi_cache.specs.inner.Parts.{IsPlaced, IsMovable, is_found_at, moves_whole, part_behind, right_part, all_parts}
-use Rattle.rbbi_cache.proofs.Reached.{first_member}
-use Rattle.rbbi_cache.proofs.RunFacts.{all_by_splits, path_within}
+use Rattle.rbbi_cache.proofs.RunFacts.{all_by_splits}
 use Rattle.rbbi_cache.proofs.RunFacts as facts
+use Rattle.rbbi_cache.proofs.Keeping.{ordered}
 use Rattle.rbbi_cache.proofs.Texts.{length_is}
 use Rattle.rbbi_cache.proofs.Moving.{same_category}
 use Rattle.rbbi_cache.proofs.LeftPart.{left_true}
-use Rattle.rbbi_cache.proofs.RightPart.{same_leb, entries_rise, pair_begins, right_true}
+use Rattle.rbbi_cache.proofs.RightPart.{same_leb, pair_begins, right_true}
 
 -- a true run without its text
 pub movable : (table : Table) → IsValidTable table → (x : List ℕ) (run : Run) → IsTrueRun table x run → length x ≤ most_characters → IsMovable run
 movable table valid x run is_true small =
-    let anchor : run.anchor ≤ length x = ⊎_elim (λ zero. omega arith) (λ pair. omega (arith, pair.0)) is_true.anchor in
     record {
-      ordered = record {
-        anchor = omega arith;
-        rising = entries_rise table valid x run is_true;
-        within = all_by_splits (λ e. e.at ≤ most_characters) run.entries
-            (λ front e rest whole. omega (
-              arith,
-              path_within table x (first_member run.anchor) _ (boundary_of table e) (facts.path_is table valid x run is_true front e rest whole)
-                  anchor,
-              small,
-            ));
-      };
+      ordered = ordered table valid x most_characters small run is_true;
       reaches_rise = is_true.reaches_rise;
       few = is_true.few;
       lie = all_by_splits (IsPlaced run.anchor) run.entries

@@ -1,9 +1,9 @@
 -- When a run shows an entry, and when none.
 use Rattle.std.proofs.Common.{◌≡◌, ℕ, zero, suc, ◌+◌, ◌-◌, ◌<◌, ◌≤◌, ◌⊎◌, List, [], ◌∷◌, ◌++◌, length, length-take, length-drop, take, drop, map, get_or, sym}
-use Rattle.std.proofs.Common.{refl, ap, ◌∙◌, subst, inl, inr, ⊎_elim, append_assoc, arith, add-one}
+use Rattle.std.proofs.Common.{refl, ap, ◌∙◌, subst, inl, inr, ⊎_elim, append_assoc, arith, add-one, eqb}
 use Rattle.std.specs.Prelude.{IsTrue}
 use Rattle.std.specs.List.{AllByRecursion}
-use Rattle.std.proofs.lemmas.Bool.{cases_eq}
+use Rattle.std.proofs.lemmas.Bool.{cases_eq, cond-false, ne_eqb}
 use Rattle.std.proofs.lemmas.List.{take-append-drop, take_more, take_all}
 use Rattle.std.proofs.Math.Seq.{drop-cons, drop-length}
 use Rattle.rbbi_model.specs.Lists.{IsRising}
@@ -212,3 +212,18 @@ module _ (x : List ℕ) (run : Run) (i count : ℕ) (d : Entry) (some : 0 < i) (
             (all_right (λ f. f.at ≤ length x) (take (count - 1) run.entries) (get_or run.entries (count - 1) d ∷ drop count run.entries)
             (subst (λ l. AllByRecursion (λ f. f.at ≤ length x) l) split within)).0 in
             omega (arith, up, down, shows.at)
+
+past_anchor : (p i : ℕ) → i < p → i + 1 < low p
+past_anchor p i before = omega (arith, cond-false (eqb p 0) 1 (p + 2) (ne_eqb p 0 (λ (zero : p ≡ 0). omega arith)))
+
+-- the run lies after the place
+module _ (run : Run) (behind : AllByRecursion (λ f. run.anchor ≤ f.at) run.entries) (d : Entry) where
+  after_all : (i : ℕ) → i < run.anchor → AreUpTo run.entries i 0
+  after_all i before =
+      record { within = omega arith; up_to = tt; past = all_through (λ f. run.anchor ≤ f.at) (λ f. i < f.at) (λ f near. omega arith) run.entries behind }
+
+  pub none_before_anchor : (i : ℕ) → i < run.anchor → (a : ℕ) → ShowsAfter run i a → ⊥
+  none_before_anchor i before = none_shown run i 0 d (after_all i before) refl (λ _. past_anchor run.anchor i before)
+
+  pub none_up_to_anchor : (x : List ℕ) (i : ℕ) → 0 < i → i ≤ run.anchor → (a : ℕ) → ShowsBefore x run i a → ⊥
+  none_up_to_anchor x i some before = none_before x run i 0 d some (after_all (i - 1) (omega arith)) refl

@@ -6,4 +6,5 @@ pub mod Scans
 pub mod Shown
 pub mod Lists
 pub mod Ready
+pub mod Quiet
 pub mod Fixed

@@ -7,17 +7,18 @@ ghost use Rattle.rbbi_model.specs.Runs.{ShowsAfter, ShowsBefore};
 ghost use Rattle.rbbi_cache.specs.Kept.{AreTrueRuns, IsFirstAfter, IsLastBefore, SomeRun, Keeps};
 ghost use Rattle.rbbi_cache.specs.Kept.{KeepsBack};
 ghost use Rattle.rbbi_cache.specs.Shown.{IsShownAfter};
-ghost use Rattle.rbbi_cache.specs.inner.Lists.{HasAt, GoesOnFrom};
+ghost use Rattle.rbbi_cache.specs.inner.Lists.{IsOrdered, HasAt, GoesOnFrom};
+ghost use Rattle.std.specs.List.{AllByRecursion};
 ghost use Rattle.rbbi_cache.specs.inner.Ready.{KeepsTrue};
 
 use crate::anchors::anchor_before;
 use crate::run_list::RunList;
-use crate::runs::{Shown, find_after, find_before, find_nearest};
+use crate::runs::{Shown, find_after, find_before, find_nearest, quiet_to};
 use crate::search::search;
 use crate::search_back::search_back;
 use crate::{Entry, Run};
 use rbbi_table::{FrontPlaces, Table};
-use rbbi_text::{Chars, Steps};
+use rbbi_text::{Chars, Near, Steps};
 use std::alloc::{AllocError, Global};
 use std::marker::Model;
 use std::sync::ledger::Ledger;
@@ -39,14 +40,21 @@ pub struct Cache {
     pub(crate) spare: Run,
     /// Scratch space of searches.
     pub(crate) marks: FrontPlaces,
+    /// From this place up to before the next one no run but the first shows a boundary, so that
+    /// the others needn't be asked.
+    pub(crate) quiet_from: u32,
+    pub(crate) quiet_to: u32,
 }
 
 impl Model for Cache {
     ghost use Rattle.rbbi_cache.specs.Kept.{KeptRuns};
+    ghost use Rattle.rbbi_cache.specs.inner.Quiet.{AreQuiet};
 
     ghost Value = { KeptRuns };
 
     ghost view = { λ cache. record { runs = cache.runs; slashes = cache.marks } };
+
+    ghost invariant = { λ cache. AreQuiet cache.quiet_from cache.quiet_to cache.runs };
 }
 
 impl Cache {
@@ -59,6 +67,8 @@ impl Cache {
             next: RunList::empty(alloc)?,
             spare: Run::empty(alloc)?,
             marks: FrontPlaces::new(alloc, table)?,
+            quiet_from: 0,
+            quiet_to: 0,
         })
     }
 
@@ -104,7 +114,8 @@ impl Cache {
         if i >= text.len() {
             return None;
         }
-        if let Some(shown) = find_after(self.runs.as_slice(), i) {
+        if let Some(shown) = self.find_shown(i) {
+            self.quiet_to = 0;
             self.runs.move_to_front(shown.run);
             return Some(shown.entry);
         }
@@ -143,6 +154,7 @@ impl Cache {
         }
         let len = text.len();
         if let Some(shown) = find_before(self.runs.as_slice(), len, i) {
+            self.quiet_to = 0;
             self.runs.move_to_front(shown.run);
             return Some(shown.entry);
         }
@@ -155,8 +167,62 @@ impl Cache {
         Some(self.find_back(table, text, i, steps))
     }
 
+    /// As `find_after` for the kept runs. If no other one can show it, only the first is asked.
+    fn find_shown(&self, i: u32) -> Option<Shown>
+        requires ordered { AllByRecursion (IsOrdered most_characters) self.now.runs }
+        requires small { i < most_characters }
+        ensures { MatchOption result
+            (AllByRecursion (λ run. (a : ℕ) → ¬ ShowsAfter run i a) self.now.runs)
+            (λ shown. HasAt self.now.runs shown.run (λ run. IsShownAfter run i shown.entry)) }
+    {
+        let runs = self.runs.as_slice();
+        if i < self.quiet_from || self.quiet_to <= i || runs.is_empty() {
+            return find_after(runs, i);
+        }
+        find_after(&runs[..1], i)
+    }
+
+    /// Notes how far from `i` on no run but the first shows a boundary, unless that is known.
+    fn mark_quiet(&mut self, i: u32)
+        requires { AllByRecursion (IsOrdered most_characters) self.old.runs }
+        ensures { self.new ≡ self.old }
+    {
+        if self.quiet_from <= i && i < self.quiet_to {
+            return;
+        }
+        let runs = self.runs.as_slice();
+        if runs.is_empty() {
+            return;
+        }
+        let to = quiet_to(&runs[1..], i);
+        self.quiet_from = i;
+        self.quiet_to = to;
+    }
+
     /// Searches for the first boundary past `i`, and keeps what it finds.
     fn find_past<T: Chars, L: Ledger>(
+        &mut self,
+        table: &Table,
+        text: &T,
+        i: u32,
+        steps: &mut Steps<L>,
+    ) -> Entry
+        requires fit { self.old.slashes ≡ table.now.slashes }
+        requires are_true { AreTrueRuns table.now (T.characters text.now) self.old.runs }
+        requires within { i < length (T.characters text.now) }
+        requires small { i < most_characters }
+        ensures kept { KeepsTrue table.now (T.characters text.now)
+            (λ run. IsShownAfter run i result) self.old.runs self.new.runs }
+        ensures fit { self.new.slashes ≡ self.old.slashes }
+        ensures more { steps.old ≤ steps.new }
+        ensures cost { steps.new ≤ steps.old + forward_cost table.now (T.characters text.now) i }
+    {
+        let near = Near::new(text, i);
+        self.find_past_near(table, &near, i, steps)
+    }
+
+    /// As `find_past`, with the characters around `i` at hand.
+    fn find_past_near<T: Chars, L: Ledger>(
         &mut self,
         table: &Table,
         text: &T,
@@ -208,6 +274,7 @@ impl Cache {
         table.valid();
         let spare = &mut self.spare;
         let entry = search(table, text, anchor, i, spare, &mut self.marks, steps);
+        self.quiet_to = 0;
         self.runs.add(spare);
         entry
     }
@@ -235,6 +302,8 @@ impl Cache {
             (anchor_below table.now (T.characters text.now) i) i }
     {
         table.valid();
+        // That the text is short is known of its length.
+        let _short = text.len();
         let spare = &mut self.spare;
         let marks = &mut self.marks;
         let (entry, is_kept) = self.runs.go_on(
@@ -247,11 +316,17 @@ impl Cache {
             marks,
             steps,
         );
-        if is_kept {
-            self.runs.move_to_front(known.run);
-        } else {
+        if !is_kept {
+            self.quiet_to = 0;
             self.runs.add(spare);
+            return entry;
         }
+        if known.run > 0 {
+            self.quiet_to = 0;
+            self.runs.move_to_front(known.run);
+            return entry;
+        }
+        self.mark_quiet(entry.at);
         entry
     }
 
@@ -276,11 +351,37 @@ impl Cache {
         ensures more { steps.old ≤ steps.new }
         ensures cost { steps.new ≤ steps.old + back_cost table.now (T.characters text.now) i }
     {
+        let near = Near::new(text, i - 1);
+        self.find_back_near(table, &near, i, steps)
+    }
+
+    /// As `find_back`, with the characters before `i` at hand.
+    fn find_back_near<T: Chars, L: Ledger>(
+        &mut self,
+        table: &Table,
+        text: &T,
+        i: u32,
+        steps: &mut Steps<L>,
+    ) -> Entry
+        requires fit { self.old.slashes ≡ table.now.slashes }
+        requires are_true { AreTrueRuns table.now (T.characters text.now) self.old.runs }
+        requires some { 0 < i }
+        requires within { i ≤ length (T.characters text.now) }
+        requires small { i ≤ most_characters }
+        ensures answer { IsLastBefore table.now (T.characters text.now) i result }
+        ensures kept { KeepsBack table.now (T.characters text.now) i result
+            self.old.runs self.new.runs }
+        ensures are_true { AreTrueRuns table.now (T.characters text.now) self.new.runs }
+        ensures fit { self.new.slashes ≡ self.old.slashes }
+        ensures more { steps.old ≤ steps.new }
+        ensures cost { steps.new ≤ steps.old + back_cost table.now (T.characters text.now) i }
+    {
         table.valid();
         let spare = &mut self.spare;
         let Some(entry) = search_back(table, text, i, spare, &mut self.marks, steps) else {
             return START;
         };
+        self.quiet_to = 0;
         self.runs.add(spare);
         entry
     }

@@ -141,6 +141,7 @@ impl Cache {
         };
         let former = self.runs.as_slice();
         self.next.fill_edited(table, text, edit, former, steps);
+        self.quiet_to = 0;
         mem::swap(&mut self.runs, &mut self.next);
     }
 }

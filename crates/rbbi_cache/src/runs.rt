@@ -7,6 +7,7 @@ ghost use Rattle.rbbi_model.specs.Runs as model;
 ghost use Rattle.rbbi_model.specs.Runs.{ShowsAfter, ShowsBefore};
 ghost use Rattle.rbbi_cache.specs.Shown.{IsShownAfter, IsShownBefore};
 ghost use Rattle.rbbi_cache.specs.inner.Lists.{IsOrdered, HasAt, GoesOnFrom};
+ghost use Rattle.rbbi_cache.specs.inner.Quiet.{IsQuiet};
 
 use crate::{Entry, Run};
 use std::mem;
@@ -50,6 +51,20 @@ pub(crate) fn find_before(runs: &[Run], len: u32, i: u32) -> Option<Shown>
         }
     }
     None
+}
+
+/// Up to before which place none of the runs shows a boundary from `i` on.
+pub(crate) fn quiet_to(runs: &[Run], i: u32) -> u32
+    requires { AllByRecursion (IsOrdered most_characters) runs.now }
+    ensures { AllByRecursion (IsQuiet i result) runs.now }
+{
+    let mut to = u32::MAX;
+    let mut k = 0;
+    while k < runs.len() {
+        to = runs[k].quiet_to(i, to);
+        k += 1;
+    }
+    to
 }
 
 /// The run with the greatest last entry that isn't past `i`; no caller rests on which it is.

@@ -7,6 +7,7 @@ ghost use Rattle.rbbi_model.specs.Words.{most_characters};
 ghost use Rattle.rbbi_model.specs.Runs.{low, ShowsAfter, ShowsBefore};
 ghost use Rattle.rbbi_cache.specs.inner.Lists.{GoesOnFrom};
 ghost use Rattle.rbbi_cache.specs.inner.Shown.{AreUpTo};
+ghost use Rattle.rbbi_cache.specs.inner.Quiet.{IsQuiet};
 ghost use Rattle.rbbi_cache.specs.Shown.{IsShownAfter, IsShownBefore};
 
 use crate::scan::low;
@@ -62,9 +63,15 @@ impl Run {
         requires rising { IsRising (map (λ entry. entry.at) self.now.entries) }
         requires small { i < most_characters }
         requires anchor { self.now.anchor ≤ most_characters }
+        requires behind { AllByRecursion (λ entry. self.now.anchor ≤ entry.at) self.now.entries }
         ensures { MatchOption result
             ((a : ℕ) → ¬ ShowsAfter self.now i a) (IsShownAfter self.now i) }
     {
+        // Of many runs that are asked, this one lies after the place.
+        let anchor = self.anchor();
+        if i < anchor {
+            return None;
+        }
         let entries = self.entries();
         let k = count_up_to(entries, i);
         if k == entries.len() {
@@ -83,11 +90,16 @@ impl Run {
     pub(crate) fn shown_before(&self, len: u32, i: u32) -> Option<Entry>
         requires rising { IsRising (map (λ entry. entry.at) self.now.entries) }
         requires within { AllByRecursion (λ entry. entry.at ≤ len) self.now.entries }
+        requires behind { AllByRecursion (λ entry. self.now.anchor ≤ entry.at) self.now.entries }
         requires some { 0 < i }
         ensures { (x : List ℕ) → len ≡ length x →
             MatchOption result
             ((a : ℕ) → ¬ ShowsBefore x self.now i a) (IsShownBefore x self.now i) }
     {
+        let anchor = self.anchor();
+        if i <= anchor {
+            return None;
+        }
         let entries = self.entries();
         let k = count_up_to(entries, i - 1);
         if k == 0 {
@@ -103,12 +115,32 @@ impl Run {
         None
     }
 
+    /// Up to before which place, at most the one given, the run shows no boundary from `i` on.
+    pub(crate) fn quiet_to(&self, i: u32, to: u32) -> u32
+        requires rising { IsRising (map (λ entry. entry.at) self.now.entries) }
+        requires behind { AllByRecursion (λ entry. self.now.anchor ≤ entry.at) self.now.entries }
+        ensures quiet { IsQuiet i result self.now }
+        ensures at_most { result ≤ to }
+    {
+        let anchor = self.anchor();
+        if i < anchor {
+            let nearer = anchor.min(to);
+            return nearer;
+        }
+        let entries = self.entries();
+        let k = count_up_to(entries, i);
+        if k < entries.len() {
+            return 0;
+        }
+        to
+    }
+
     /// Its last entry, where that isn't past `i`.
     pub(crate) fn last_up_to(&self, i: u32) -> Option<Entry>
         ensures { MatchOption result ⊤ (λ entry. GoesOnFrom i entry self.now) }
     {
         let entries = self.entries();
-        if entries.is_empty() {
+        if self.anchor() > i || entries.is_empty() {
             return None;
         }
         let entry = entries[entries.len() - 1];

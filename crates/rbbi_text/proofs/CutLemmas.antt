@@ -11,6 +11,7 @@ use Rattle.rbbi_model.specs.Spelling.{joined}
 use Rattle.rbbi_model.specs.Scripts.{splice}
 use Rattle.rbbi_model.proofs.Lists.{all_append}
 use Rattle.rbbi_text.specs.Cuts.{starts_from, IsFilled, AreFilled, ArePieces, AreCut}
+use Rattle.rbbi_text.specs.Excerpts.{IsExcerptOf}
 use Rattle.rbbi_text.specs.inner.Cuts.{AreSoFar, HaveRoom, IsIn, shifted, pieces_with, starts_with_new, edited_piece, AreWholeCut, IsFound, IsMiddle}
 use Rattle.rbbi_text.proofs.Splices.{length-splice, text-splice}
 
@@ -435,6 +436,22 @@ pub character_at : (ps : List (List ℕ)) (starts : List ℕ) (k place : ℕ) �
 character_at ps starts k place cut found short =
     let P : List ℕ → Type 0 = λ s. IsFound ps s k place → get_or (joined ps) place 0 ≡ get_or (get_or ps k []) (place - get_or s k 0) 0 in
     subst P (sym cut.begin) (λ (f : IsFound ps (starts_from 0 ps) k place). character_in ps k place f.within f.begins (f.inside short)) found
+
+-- the piece in which a place was found is an excerpt of the text
+pub piece_excerpt : (ps : List (List ℕ)) (starts : List ℕ) (k place : ℕ) (piece : List ℕ) → AreWholeCut ps starts → IsFound ps starts k place →
+    piece ≡ get_or ps k [] → IsExcerptOf (joined ps) (record { from = get_or starts k 0; items = piece })
+piece_excerpt ps starts k place piece cut found is =
+    let start : ℕ = get_or (starts_from 0 ps) k 0 in
+    let from : get_or starts k 0 ≡ start = ap (λ (s : List ℕ). get_or s k 0) cut.begin in
+    record {
+      within = omega (arith, from, ends_at ps k found.within, length_parted ps (k + 1), ap length is);
+      each = λ j short.
+          let inside : start + j < start + length (get_or ps k []) = omega (arith, short, ap length is) in
+          let behind : start + j - start ≡ j = omega arith in
+          ap (λ (l : List ℕ). get_or l j 0) is
+          ∙ sym (character_in ps k (start + j) found.within (omega arith) inside ∙ ap (λ (n : ℕ). get_or (get_or ps k []) n 0) behind)
+          ∙ ap (λ (n : ℕ). get_or (joined ps) (n + j) 0) (sym from);
+    }
 
 -- starts after an edit
 pub behind_start : (ps : List (List ℕ)) (starts : List ℕ) (past removed : ℕ) → AreWholeCut ps starts → removed ≤ length (joined (take past ps)) →

@@ -37,11 +37,11 @@ module _ {A : Type 0} (weight : A → ℕ) (items : List A) where
   sum_more from count = ap (λ l. sum_by weight l) (take-add from count items) ∙ sum_by-append weight (take from items) (take count (drop from items))
 
   -- what stands at a milestone
-  pub milestone_is : (sums : List ℕ) (k : ℕ) → AreMilestones weight items sums → k ≤ length sums → get_or (0 ∷ sums) k 0 ≡ sum_by weight (take (64 * k) items)
+  pub milestone_is : (sums : List ℕ) (k : ℕ) → AreMilestones weight items sums → k ≤ length sums → get_or (0 ∷ sums) k 0 ≡ sum_by weight (take (8 * k) items)
   milestone_is sums zero are within = refl
   milestone_is sums (suc k) are within =
       let next : k + 1 ≡ suc k = omega arith in
-      are.each k (omega (arith, within)) ∙ ap (λ n. sum_by weight (take (64 * n) items)) next
+      are.each k (omega (arith, within)) ∙ ap (λ n. sum_by weight (take (8 * n) items)) next
 
   -- as many as may be after a milestone are as many as may be of all
   pub fit_behind : (from most units count more : ℕ) → from ≤ length items → units ≡ sum_by weight (take from items) → units ≤ most →
@@ -57,8 +57,8 @@ module _ {A : Type 0} (weight : A → ℕ) (items : List A) where
   }
 
   -- one more milestone
-  pub milestone_more : (sums : List ℕ) (units : ℕ) → AreMilestones weight items sums → 64 * length sums + 64 ≤ length items →
-      units ≡ sum_by weight (take (64 * (length sums + 1)) items) → AreMilestones weight items (sums ++ units ∷ [])
+  pub milestone_more : (sums : List ℕ) (units : ℕ) → AreMilestones weight items sums → 8 * length sums + 8 ≤ length items →
+      units ≡ sum_by weight (take (8 * (length sums + 1)) items) → AreMilestones weight items (sums ++ units ∷ [])
   milestone_more sums units are room units_are = record {
     few = omega (arith, length-append sums (units ∷ []), room);
     each = λ k short.
@@ -70,41 +70,41 @@ module _ {A : Type 0} (weight : A → ℕ) (items : List A) where
         get_or-append_right sums (units ∷ []) (length sums) k 0 refl high
         ∙ ap (λ n. get_or (units ∷ []) n 0) none
         ∙ units_are
-        ∙ ap (λ n. sum_by weight (take (64 * (n + 1)) items)) (sym here))
+        ∙ ap (λ n. sum_by weight (take (8 * (n + 1)) items)) (sym here))
         (cases_lt k (length sums));
   }
 
   -- the same by the number of the first item after the milestone
-  pub milestone_at : (sums : List ℕ) (k : ℕ) → AreMilestones weight items sums → k ≤ length sums → get_or (0 ∷ sums) k 0 ≡ sum_by weight (take (k * 64) items)
+  pub milestone_at : (sums : List ℕ) (k : ℕ) → AreMilestones weight items sums → k ≤ length sums → get_or (0 ∷ sums) k 0 ≡ sum_by weight (take (k * 8) items)
   milestone_at sums k are within =
-      let same : 64 * k ≡ k * 64 = omega arith in
+      let same : 8 * k ≡ k * 8 = omega arith in
       milestone_is sums k are within ∙ ap (λ n. sum_by weight (take n items)) same
 
   -- milestones of items that are others from an item on
   pub milestones_kept : (new : List A) (sums : List ℕ) (from : ℕ) → AreMilestones weight items sums → take from new ≡ take from items → from ≤ length new →
-      AreMilestones weight new (take (from / 64) sums)
+      AreMilestones weight new (take (from / 8) sums)
   milestones_kept new sums from are same within = record {
-    few = omega (arith, length-take (from / 64) sums, within);
+    few = omega (arith, length-take (from / 8) sums, within);
     each = λ k short.
-        let low : k < from / 64 = omega (arith, short, length-take (from / 64) sums) in
-        let before : 64 * (k + 1) ≤ from = omega (arith, low) in
-        get_or-take (from / 64) sums k 0 low
-        ∙ are.each k (omega (arith, short, length-take (from / 64) sums))
+        let low : k < from / 8 = omega (arith, short, length-take (from / 8) sums) in
+        let before : 8 * (k + 1) ≤ from = omega (arith, low) in
+        get_or-take (from / 8) sums k 0 low
+        ∙ are.each k (omega (arith, short, length-take (from / 8) sums))
         ∙ ap (λ l. sum_by weight l)
-        (sym (take-take (64 * (k + 1)) from items before) ∙ ap (λ l. take (64 * (k + 1)) l) (sym same) ∙ take-take (64 * (k + 1)) from new before);
+        (sym (take-take (8 * (k + 1)) from items before) ∙ ap (λ l. take (8 * (k + 1)) l) (sym same) ∙ take-take (8 * (k + 1)) from new before);
   }
 
   -- what an item takes is in each milestone after it
-  pub item_in_milestone : (sums : List ℕ) (item : ℕ) (d : A) → AreMilestones weight items sums → (k : ℕ) → item / 64 ≤ k → k < length sums →
+  pub item_in_milestone : (sums : List ℕ) (item : ℕ) (d : A) → AreMilestones weight items sums → (k : ℕ) → item / 8 ≤ k → k < length sums →
       weight (get_or items item d) ≤ get_or sums k 0
   item_in_milestone sums item d are k behind short =
-      let n : ℕ = 64 * (k + 1) in
+      let n : ℕ = 8 * (k + 1) in
       let low : item < n = omega (arith, behind) in
       let long : item < length (take n items) = omega (arith, low, length-take n items, are.few, short) in
       omega (arith, are.each k short, sum_by_more_le weight (take n items) item d long, ap weight (get_or-take n items item d low))
 
   milestone_in_all : (sums : List ℕ) → AreMilestones weight items sums → (k : ℕ) → k < length sums → get_or sums k 0 ≤ sum_by weight items
-  milestone_in_all sums are k short = omega (arith, are.each k short, sum_by-take-le weight items (64 * (k + 1)))
+  milestone_in_all sums are k short = omega (arith, are.each k short, sum_by-take-le weight items (8 * (k + 1)))
 
   moved_length : (sums : List ℕ) (from old new : ℕ) → length (take from sums ++ shifted old new (drop from sums)) ≡ length sums
   moved_length sums from old new =
@@ -119,15 +119,15 @@ module _ {A : Type 0} (weight : A → ℕ) (items : List A) where
   -- milestones after an item that is another one
   pub milestones_moved : (sums : List ℕ) (item old new : ℕ) (q d : A) → AreMilestones weight items sums → item < length items → old ≡ weight
       (get_or items item d) →
-      new ≡ weight q → let from = min (item / 64) (length sums) in AreMilestones weight (set items item q) (take from sums ++ shifted old new (drop from sums))
+      new ≡ weight q → let from = min (item / 8) (length sums) in AreMilestones weight (set items item q) (take from sums ++ shifted old new (drop from sums))
   milestones_moved sums item old new q d are within is_old is_new =
-      let from : ℕ = min (item / 64) (length sums) in
+      let from : ℕ = min (item / 8) (length sums) in
       let front : length (take from sums) ≡ from = omega (arith, length-take from sums) in
       let long : length (take from sums ++ shifted old new (drop from sums)) ≡ length sums = moved_length sums from old new in
       record {
         few = omega (arith, long, are.few, length-set items item q);
         each = λ k short.
-            let n : ℕ = 64 * (k + 1) in
+            let n : ℕ = 8 * (k + 1) in
             let inside : k < length sums = omega (arith, short, long) in
             ⊎_elim
             (λ (low : k < from).
@@ -137,7 +137,7 @@ module _ {A : Type 0} (weight : A → ℕ) (items : List A) where
             ∙ are.each k inside
             ∙ ap (λ l. sum_by weight l) (sym (take-set-le n items item q before)))
             (λ (high : from ≤ k).
-            let behind : item / 64 ≤ k = omega (arith, high, inside) in
+            let behind : item / 8 ≤ k = omega (arith, high, inside) in
             let less : item < n = omega (arith, behind) in
             let place : ℕ = k - from in
             let is : from + place ≡ k = omega (arith, high) in
@@ -209,6 +209,10 @@ index_of_chars x o within =
       greatest = λ i fits low. omega (arith, low, sum_ones (take i x), length-take i x, fits);
       whole = (λ is. omega (arith, sum_ones (take o x), length-take o x, inside), λ is. refl);
     }
+
+-- a part of a list takes little
+pub sum_part_small : (unit : TextUnit) (x : List ℕ) (s e : ℕ) → sum_by (size_of unit) (slice_range x s e) ≤ 4 * (e - s)
+sum_part_small unit x s e = omega (arith, sum_small unit (slice_range x s e), length-take (e - s) (drop s x))
 
 -- a part of a list takes no more than all of it
 pub slice_small : (unit : TextUnit) (x : List ℕ) (s e : ℕ) → sum_by (size_of unit) (slice_range x s e) ≤ 4 * length x
@@ -358,7 +362,7 @@ module _ (unit : TextUnit) (ps : List (List ℕ)) (starts : List ℕ) (cut : Are
 -- a piece that is edited, in the milestones after it
 module _ (unit : TextUnit) (ps : List (List ℕ)) (sums : List ℕ) (first : ℕ) (are : AreMilestones (weight_of unit) ps sums) (short : first < length ps) where
   pub old_in_milestones : (old : ℕ) (item : List ℕ) → item ≡ get_or ps first item → old ≡ weight_of unit item →
-      (k : ℕ) → first / 64 ≤ k → k < length sums → old ≤ get_or sums k 0
+      (k : ℕ) → first / 8 ≤ k → k < length sums → old ≤ get_or sums k 0
   old_in_milestones old item read is k behind within =
       omega (
         arith,
@@ -370,7 +374,7 @@ module _ (unit : TextUnit) (ps : List (List ℕ)) (sums : List ℕ) (first : ℕ
   pub new_in_milestones : (new : ℕ) (item piece x w : List ℕ) (from remove : ℕ) → length (joined ps) ≤ most_characters →
       item ≡ get_or (set ps first piece) first item → new ≡ weight_of unit item → piece ≡ splice x from (from + remove) w → x ≡ get_or ps first x →
       from + remove ≤ length (get_or ps first []) → length (get_or ps first []) - remove + length w ≤ 1024 →
-      (k : ℕ) → first / 64 ≤ k → k < length sums → get_or sums k 0 + new < 4294967296
+      (k : ℕ) → first / 8 ≤ k → k < length sums → get_or sums k 0 + new < 4294967296
   new_in_milestones new item piece x w from remove few read is edited read_x within full k behind inside =
       let item_is : item ≡ piece = read ∙ get_or-set_same ps first piece item short in
       let x_is : x ≡ get_or ps first [] = get_or_read ps first x short read_x [] in
@@ -389,7 +393,7 @@ module _ (unit : TextUnit) (ps : List (List ℕ)) (sums : List ℕ) (first : ℕ
 
   pub milestones_after : (old new : ℕ) (item item' piece made : List ℕ) → item ≡ get_or ps first item → old ≡ weight_of unit item →
       item' ≡ get_or (set ps first piece) first item' → new ≡ weight_of unit item' →
-      made ≡ take (min (first / 64) (length sums)) sums ++ shifted old new (drop (min (first / 64) (length sums)) sums) →
+      made ≡ take (min (first / 8) (length sums)) sums ++ shifted old new (drop (min (first / 8) (length sums)) sums) →
       AreMilestones (weight_of unit) (set ps first piece) made
   milestones_after old new item item' piece made read is read' is' made_is =
       subst (λ m. AreMilestones (weight_of unit) (set ps first piece) m) (sym made_is)
@@ -404,7 +408,7 @@ kept_front x now rest n within is =
 
 -- the milestones before an item from which on the items are others
 pub renewed_kept : {A : Type 0} (weight : A → ℕ) (x now rest : List A) (sums : List ℕ) (n : ℕ) → AreMilestones weight x sums → n ≤ length x →
-    now ≡ take n x ++ rest → AreMilestones weight now (take (n / 64) sums)
+    now ≡ take n x ++ rest → AreMilestones weight now (take (n / 8) sums)
 renewed_kept weight x now rest sums n are within is =
     let kept = kept_front x now rest n within is in milestones_kept weight x now sums n are kept.0 kept.1
 

@@ -11,4 +11,5 @@ pub mod Cuts
 pub mod Milestones
 pub mod Weighed
 pub mod Indexes
+pub mod Excerpts
 pub mod inner

@@ -2,8 +2,9 @@
 ghost use Rattle.std.specs.Prelude.{◌≡◌, ◌+◌, ◌<◌, ◌≤◌, ℕ, List, length, slice_index, chars};
 ghost use Rattle.rbbi_model.specs.Words.{IsText, most_characters};
 ghost use Rattle.rbbi_text.specs.Answers.{Replaces};
+ghost use Rattle.rbbi_text.specs.Excerpts.{IsExcerptOf};
 
-use crate::{EditErr, Steps};
+use crate::{EditErr, Excerpt, Steps};
 use std::sync::ledger::Ledger;
 
 /// A text: a list of at most 16,777,216 characters. No call but `char_at` gives characters.
@@ -22,6 +23,16 @@ pub trait Chars {
         requires { i < length (characters self.now) }
         ensures character { result ≡ slice_index (characters self.now) i }
         ensures step { steps.new ≡ steps.old + 1 };
+
+    /// Characters around a place, for a [`Near`]: those that lie next to each other in memory. By
+    /// default none.
+    fn excerpt(&self, i: u32) -> Excerpt<'_>
+        requires { i ≤ length (characters self.now) }
+        ensures { IsExcerptOf (characters self.now) result }
+    {
+        let _place = i;
+        Excerpt::none()
+    }
 }
 
 /// A text that can be edited.

@@ -44,6 +44,7 @@ fn utf8_size(code: u32) -> u32
 }
 
 /// How much of the unit the items take together.
+#[inline(always)]
 #[tactic(auto, using(crate::proofs::MilestoneLemmas::total_more))]
 pub(crate) fn total<T: Measure>(items: &[T], unit: Unit) -> u32
     requires { sum_by (T.weight unit) items.now < 2 ^ 32 }
@@ -61,9 +62,11 @@ pub(crate) fn taken(items: &[char], unit: Unit) -> u32
     requires { sum_by (size_of unit) items.now < 2 ^ 32 }
     ensures { result ≡ sum_by (size_of unit) items.now }
 {
+    // In a loop for one unit alone several characters are measured at once.
     match unit {
         Unit::Chars => items.len() as u32,
-        Unit::Utf8 | Unit::Utf16 => total(items, unit),
+        Unit::Utf8 => total(items, Unit::Utf8),
+        Unit::Utf16 => total(items, Unit::Utf16),
     }
 }
 
@@ -89,4 +92,28 @@ pub(crate) fn fit_in<T: Measure>(items: &[T], unit: Unit, most: u32) -> Fit
         fit.units += units;
     }
     fit
+}
+
+/// How many characters are measured at once.
+const BLOCK: usize = 32;
+
+/// As `fit_in`, for characters: it goes over them by blocks, and then over the last block.
+pub(crate) fn fit_characters(items: &[char], unit: Unit, most: u32) -> Fit
+    ensures { IsFit (size_of unit) items.now most result.count result.units }
+{
+    let mut count = 0;
+    let mut units = 0;
+    while items.len() - count >= BLOCK {
+        let block = taken(&items[count..count + BLOCK], unit);
+        if block > most - units {
+            break;
+        }
+        count += BLOCK;
+        units += block;
+    }
+    let rest = fit_in(&items[count..], unit, most - units);
+    Fit {
+        count: count + rest.count,
+        units: units + rest.units,
+    }
 }

@@ -11,9 +11,9 @@ use crate::places::shift;
 use std::alloc::Global;
 
 /// How many items stand between two milestones.
-const BETWEEN: usize = 64;
+const BETWEEN: usize = 8;
 
-/// How much of a unit the items before each 64th take together. In characters none are made, since
+/// How much of a unit the items before each 8th take together. In characters none are made, since
 /// they aren't needed to find a place.
 ///
 /// Where memory runs out there are fewer milestones than have room, which only costs time.
@@ -39,7 +39,7 @@ impl Milestones {
     pub(crate) fn renew<T: Measure>(&mut self, items: &[T], from: usize)
         requires small { sum_by (T.weight self.old.unit) items.now < 2 ^ 32 }
         requires kept { AreMilestones (T.weight self.old.unit) items.now
-            (take (from / 64) self.old.sums.items) }
+            (take (from / 8) self.old.sums.items) }
         ensures unit { self.new.unit ≡ self.old.unit }
         ensures are { AreMilestones (T.weight self.old.unit) items.now self.new.sums.items }
     {
@@ -133,11 +133,11 @@ pub(crate) fn find<T: Measure>(items: &[T], sums: &[u32], unit: Unit, most: u32)
 
 /// Moves the milestones after an item that took `old` of their unit and takes `new` now.
 pub(crate) fn shift_milestones(sums: &mut Vec<u32>, item: usize, old: u32, new: u32)
-    requires behind { (k : ℕ) → item / 64 ≤ k → k < length sums.old.items
+    requires behind { (k : ℕ) → item / 8 ≤ k → k < length sums.old.items
         → old ≤ slice_index sums.old.items k }
-    requires small { (k : ℕ) → item / 64 ≤ k → k < length sums.old.items
+    requires small { (k : ℕ) → item / 8 ≤ k → k < length sums.old.items
         → slice_index sums.old.items k + new < 2 ^ 32 }
-    ensures { let from = min (item / 64) (length sums.old.items) in sums.new.items
+    ensures { let from = min (item / 8) (length sums.old.items) in sums.new.items
         ≡ take from sums.old.items ++ shifted old new (drop from sums.old.items) }
 {
     let from = (item / BETWEEN).min(sums.len());

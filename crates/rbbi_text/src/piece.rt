@@ -12,7 +12,7 @@ ghost use Rattle.rbbi_text.specs.inner.Fits.{IsFit};
 ghost use Rattle.rbbi_model.specs.Units.{size_of};
 
 use crate::Unit;
-use crate::measure::{Fit, Measure, fit_in, taken};
+use crate::measure::{Fit, Measure, fit_characters, taken};
 use crate::plain::{MOST_CHARACTERS, put};
 use std::alloc::{AllocError, Global};
 use std::marker::Model;
@@ -154,7 +154,7 @@ impl Piece {
     {
         let len = self.items.len();
         if self.units(unit) as usize != len {
-            return fit_in(self.items.as_slice(), unit, most);
+            return fit_characters(&self.items, unit, most);
         }
         let count = len.min(most as usize);
         Fit {

@@ -18,9 +18,11 @@ ghost use Rattle.rbbi_text.specs.Answers.{TakesText, ReadsText};
 use crate::measure::Measure;
 use crate::milestones::{Milestones, before, find, shift_milestones};
 use crate::piece::{FULL, Piece, QUARTER, cut, pieces_of};
-use crate::places::{character, locate, push_starts, shift};
+use crate::places::{character, locate, piece_around, push_starts, shift};
 use crate::plain::{check_edit, put};
-use crate::{Chars, EditErr, EditText, Index, Raw, RawErr, Steps, TextErr, Unit, UnitText};
+use crate::{
+    Chars, EditErr, EditText, Excerpt, Index, Raw, RawErr, Steps, TextErr, Unit, UnitText,
+};
 use std::alloc::{AllocError, Global};
 use std::fmt;
 use std::marker::Model;
@@ -39,7 +41,7 @@ pub struct Pieces {
     starts: Vec<u32>,
     /// The number of characters.
     len: u32,
-    /// Where each 64th piece starts in the unit for which the text is ready.
+    /// Where each 8th piece starts in the unit for which the text is ready.
     milestones: Milestones,
     /// Where the memory of further pieces comes from.
     alloc: Global,
@@ -125,6 +127,10 @@ impl Chars for Pieces {
     fn char_at<L: Ledger>(&self, i: u32, steps: &mut Steps<L>) -> char {
         steps.tick();
         character(&self.pieces, &self.starts, i as usize)
+    }
+
+    fn excerpt(&self, i: u32) -> Excerpt<'_> {
+        piece_around(&self.pieces, &self.starts, i as usize)
     }
 }
 

@@ -3,8 +3,10 @@ ghost use Rattle.std.specs.Prelude.{◌≡◌, ◌-◌, ◌+◌, ◌/◌, ◌^�
 ghost use Rattle.std.specs.Prelude.{min, slice_index, IfOk, OnOk};
 ghost use Rattle.rbbi_model.specs.Spelling.{joined};
 ghost use Rattle.rbbi_text.specs.Cuts.{starts_from};
+ghost use Rattle.rbbi_text.specs.Excerpts.{IsExcerptOf};
 ghost use Rattle.rbbi_text.specs.inner.Cuts.{shifted, IsIn, IsFound, AreWholeCut};
 
+use crate::Excerpt;
 use crate::piece::{FULL, Piece};
 use std::alloc::AllocError;
 
@@ -104,4 +106,17 @@ pub(crate) fn character(pieces: &[Piece], starts: &[u32], place: usize) -> char
     let piece = locate(pieces, starts, place);
     let start = starts[piece] as usize;
     pieces[piece].get(place - start)
+}
+
+/// The piece that a place is in.
+pub(crate) fn piece_around<'a>(pieces: &'a [Piece], starts: &[u32], place: usize) -> Excerpt<'a>
+    requires cut { AreWholeCut pieces.now starts.now }
+    requires inside { place ≤ length (joined pieces.now) }
+    ensures { IsExcerptOf (joined pieces.now) result }
+{
+    let number = locate(pieces, starts, place);
+    Excerpt {
+        from: starts[number],
+        items: pieces[number].as_slice(),
+    }
 }

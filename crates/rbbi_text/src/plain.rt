@@ -8,8 +8,10 @@ ghost use Rattle.rbbi_text.specs.Texts.{IsShortText};
 ghost use Rattle.rbbi_text.specs.Answers.{TakesText, ReadsText, ChecksEdit};
 ghost use Rattle.rbbi_model.specs.Units.{offset_of};
 
-use crate::measure::{fit_in, taken};
-use crate::{Chars, EditErr, EditText, Index, Raw, RawErr, Steps, TextErr, Unit, UnitText};
+use crate::measure::{fit_characters, taken};
+use crate::{
+    Chars, EditErr, EditText, Excerpt, Index, Raw, RawErr, Steps, TextErr, Unit, UnitText,
+};
 use std::alloc::{AllocError, Global};
 use std::fmt;
 use std::marker::Model;
@@ -113,6 +115,13 @@ impl Chars for PlainText {
         steps.tick();
         self.items[i as usize]
     }
+
+    fn excerpt(&self, _i: u32) -> Excerpt<'_> {
+        Excerpt {
+            from: 0,
+            items: &self.items,
+        }
+    }
 }
 
 /// How many characters a string has that is to replace `remove` characters from the place `at` of a
@@ -167,7 +176,7 @@ impl UnitText for PlainText {
     fn make_ready(&mut self, _unit: Unit) {}
 
     fn index(&self, unit: Unit, o: u32) -> Index {
-        let fit = fit_in(&self.items, unit, o);
+        let fit = fit_characters(&self.items, unit, o);
         Index {
             at: fit.count as u32,
             whole: fit.units == o,

@@ -4,11 +4,12 @@ use Rattle.std.specs.List.{AllByRecursion}
 use Rattle.rbbi_model.specs.Lists.{IsRising}
 use Rattle.rbbi_model.specs.Runs.{Entry, Run}
 
--- the run's anchor and entries lie within a text of this length, and its entries rise
+-- the run's anchor and entries lie within a text of this length, and its entries rise from the anchor on
 pub record IsOrdered (len : ℕ) (run : Run) : Type 0 where
   pub anchor : run.anchor ≤ len
   pub rising : IsRising (map (λ entry. entry.at) run.entries)
   pub within : AllByRecursion (λ entry. entry.at ≤ len) run.entries
+  pub behind : AllByRecursion (λ entry. run.anchor ≤ entry.at) run.entries
 
 -- the run with this number is such a one
 pub record HasAt (runs : List Run) (k : ℕ) (IsSuch : Run → Type 0) : Type 0 where

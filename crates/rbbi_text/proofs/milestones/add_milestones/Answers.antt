@@ -9,8 +9,8 @@ total-units-requires g c =
     let from : ℕ = c.loop-from.from in
     omega (
       arith,
-      sum_parts (g.T.Measure.weight c.args.unit) c.args.items.now from (from + 64) (omega arith),
-      sum_by-take-le (g.T.Measure.weight c.args.unit) c.args.items.now (from + 64),
+      sum_parts (g.T.Measure.weight c.args.unit) c.args.items.now from (from + 8) (omega arith),
+      sum_by-take-le (g.T.Measure.weight c.args.unit) c.args.items.now (from + 8),
     )
 
 pub overflow_add-units : goal.overflow_add-units
@@ -18,8 +18,8 @@ overflow_add-units g c =
     let from : ℕ = c.loop-from.from in
     omega (
       arith,
-      sum_parts (g.T.Measure.weight c.args.unit) c.args.items.now from (from + 64) (omega arith),
-      sum_by-take-le (g.T.Measure.weight c.args.unit) c.args.items.now (from + 64),
+      sum_parts (g.T.Measure.weight c.args.unit) c.args.items.now from (from + 8) (omega arith),
+      sum_by-take-le (g.T.Measure.weight c.args.unit) c.args.items.now (from + 8),
       c.total-units.ensures,
       c.loop-from.invariant.units_are,
       c.requires.small,
@@ -30,14 +30,14 @@ loop-from-preserved g c =
     let from : ℕ = c.loop-from.from in
     let sums : List ℕ = c.loop-from.sums.items in
     let units : ℕ = c.loop-from.units + c.total-units.result in
-    let units_are : units ≡ sum_by (g.T.Measure.weight c.args.unit) (take (from + 64) c.args.items.now) =
+    let units_are : units ≡ sum_by (g.T.Measure.weight c.args.unit) (take (from + 8) c.args.items.now) =
     omega (
       arith,
-      sum_parts (g.T.Measure.weight c.args.unit) c.args.items.now from (from + 64) (omega arith),
+      sum_parts (g.T.Measure.weight c.args.unit) c.args.items.now from (from + 8) (omega arith),
       c.total-units.ensures,
       c.loop-from.invariant.units_are,
     ) in
-    let next : from + 64 ≡ 64 * (length sums + 1) = omega (arith, c.loop-from.invariant.from_is) in
+    let next : from + 8 ≡ 8 * (length sums + 1) = omega (arith, c.loop-from.invariant.from_is) in
     let pushed : c.push.new.self.items ≡ sums ++ units ∷ [] = c.in-Ok.ensures.items in
     record {
       from_is = omega (arith, next, ap length pushed, length-append sums (units ∷ []));

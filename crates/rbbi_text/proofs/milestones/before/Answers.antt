@@ -5,7 +5,7 @@ use Rattle.rbbi_text.proofs.milestones.before.Goals as goal
 
 pub total-requires : goal.total-requires
 total-requires g c =
-    let from : ℕ = c.min-number.result * 64 in
+    let from : ℕ = c.min-number.result * 8 in
     let order : from ≤ c.args.i = omega arith in
     omega (
       arith,
@@ -16,7 +16,7 @@ total-requires g c =
 
 pub overflow_add-result : goal.overflow_add-result
 overflow_add-result g c =
-    let from : ℕ = c.min-number.result * 64 in
+    let from : ℕ = c.min-number.result * 8 in
     let order : from ≤ c.args.i = omega arith in
     omega (
       arith,
@@ -30,7 +30,7 @@ overflow_add-result g c =
 
 pub returns : goal.returns
 returns g c =
-    let from : ℕ = c.min-number.result * 64 in
+    let from : ℕ = c.min-number.result * 8 in
     let order : from ≤ c.args.i = omega arith in
     omega (
       arith,

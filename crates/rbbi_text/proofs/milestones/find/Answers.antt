@@ -6,7 +6,7 @@ use Rattle.rbbi_text.proofs.milestones.find.Goals as goal
 
 pub returns : goal.returns
 returns g c =
-    let from : ℕ = c.last_milestone-number.result * 64 in
+    let from : ℕ = c.last_milestone-number.result * 8 in
     let within : from ≤ length c.args.items.now = omega (arith, c.requires.sums.few, c.last_milestone-number.ensures.within) in
     let at = milestone_at (g.T.Measure.weight c.args.unit) c.args.items.now c.args.sums.now c.last_milestone-number.result c.requires.sums
     c.last_milestone-number.ensures.within in

@@ -1,20 +1,20 @@
-use Rattle.std.proofs.Common.{ℕ, sym, refl, ap, ◌∙◌, subst, arith}
-use Rattle.std.specs.List.{AllByRecursion}
+use Rattle.std.proofs.Common.{sym, refl, ap, arith}
 use Rattle.rbbi_model.specs.Words.{most_characters}
 use Rattle.rbbi_model.specs.Runs.{ShowsAfter}
 use Rattle.rbbi_cache.specs.Kept.{KeptRuns}
 use Rattle.rbbi_cache.specs.Shown.{IsShownAfter}
-use Rattle.rbbi_cache.specs.inner.Lists.{IsOrdered}
 use Rattle.rbbi_cache.proofs.Keeping.{all_ordered, keeps_shown}
 use Rattle.rbbi_cache.proofs.Answering.{answer_after, same_after, none_past_end, no_run}
+use Rattle.rbbi_cache.proofs.Quieting.{none_quiet}
 use Rattle.rbbi_cache.proofs.cache.Cache.after.Goals as goal
 
-pub find_after-requires-clause-ordered : goal.find_after-requires-clause-ordered
-find_after-requires-clause-ordered g c =
-    let same = c.as_slice.ensures.runs ∙ ap (λ (s : KeptRuns). s.runs) c.self.view_is in
-    subst (AllByRecursion (IsOrdered most_characters)) (sym same)
-    (all_ordered c.args.table.now c.valid.ensures (g.T.Chars.characters c.args.text.now) most_characters c.len.ensures.most c.args.self.now.runs
-    c.requires.are_true)
+pub find_shown-requires-clause-ordered : goal.find_shown-requires-clause-ordered
+find_shown-requires-clause-ordered g c =
+    all_ordered c.args.table.now c.valid.ensures (g.T.Chars.characters c.args.text.now) most_characters c.len.ensures.most c.args.self.now.runs
+    c.requires.are_true
+
+pub invariant_of-self : goal.invariant_of-self
+invariant_of-self g c = none_quiet _ 0 _ refl
 
 pub returns-in-Some-clause-answer : goal.returns-in-Some-clause-answer
 returns-in-Some-clause-answer g c = (
@@ -23,7 +23,7 @@ returns-in-Some-clause-answer g c = (
       c.move_to_front.new.self
       (keeps_shown c.args.table.now c.valid.ensures (g.T.Chars.characters c.args.text.now) (λ r. IsShownAfter r c.args.i c.in-Some.shown.entry)
       c.args.self.now.runs c.requires.are_true
-      c.as_slice.result.now c.self.inside.runs c.as_slice.ensures.runs (ap (λ (s : KeptRuns). s.runs) c.self.view_is) c.in-Some.shown.run c.in-Some.ensures
+      c.args.self.now.runs c.self.inside.runs (sym (ap (λ (s : KeptRuns). s.runs) c.self.view_is)) (ap (λ (s : KeptRuns). s.runs) c.self.view_is) c.in-Some.shown.run c.in-Some.ensures
       c.move_to_front.new.self c.move_to_front.ensures),
 )
 
@@ -31,14 +31,14 @@ pub returns-in-Some-clause-kept : goal.returns-in-Some-clause-kept
 returns-in-Some-clause-kept g c =
     (keeps_shown c.args.table.now c.valid.ensures (g.T.Chars.characters c.args.text.now) (λ r. IsShownAfter r c.args.i c.in-Some.shown.entry)
     c.args.self.now.runs c.requires.are_true
-    c.as_slice.result.now c.self.inside.runs c.as_slice.ensures.runs (ap (λ (s : KeptRuns). s.runs) c.self.view_is) c.in-Some.shown.run c.in-Some.ensures
+    c.args.self.now.runs c.self.inside.runs (sym (ap (λ (s : KeptRuns). s.runs) c.self.view_is)) (ap (λ (s : KeptRuns). s.runs) c.self.view_is) c.in-Some.shown.run c.in-Some.ensures
     c.move_to_front.new.self c.move_to_front.ensures).0
 
 pub returns-in-Some-clause-are_true : goal.returns-in-Some-clause-are_true
 returns-in-Some-clause-are_true g c =
     (keeps_shown c.args.table.now c.valid.ensures (g.T.Chars.characters c.args.text.now) (λ r. IsShownAfter r c.args.i c.in-Some.shown.entry)
     c.args.self.now.runs c.requires.are_true
-    c.as_slice.result.now c.self.inside.runs c.as_slice.ensures.runs (ap (λ (s : KeptRuns). s.runs) c.self.view_is) c.in-Some.shown.run c.in-Some.ensures
+    c.args.self.now.runs c.self.inside.runs (sym (ap (λ (s : KeptRuns). s.runs) c.self.view_is)) (ap (λ (s : KeptRuns). s.runs) c.self.view_is) c.in-Some.shown.run c.in-Some.ensures
     c.move_to_front.new.self c.move_to_front.ensures).1
 
 pub returns-in-Some-clause-shown : goal.returns-in-Some-clause-shown
@@ -61,7 +61,4 @@ returns-clause-answer g c = (
 )
 
 pub returns-clause-shown : goal.returns-clause-shown
-returns-clause-shown g c a some =
-    let same = c.as_slice.ensures.runs ∙ ap (λ (s : KeptRuns). s.runs) c.self.view_is in
-    absurd (no_run (λ a r. ShowsAfter r c.args.i a) c.args.self.now.runs (subst (AllByRecursion (λ r. (a : ℕ) → ShowsAfter r c.args.i a → ⊥)) same
-    c.in_default.ensures) a some)
+returns-clause-shown g c a some = absurd (no_run (λ a r. ShowsAfter r c.args.i a) c.args.self.now.runs c.in_default.ensures a some)

@@ -8,7 +8,11 @@ use Rattle.rbbi_cache.proofs.Keeping.{all_ordered, keeps_shown, keeps_through, s
 use Rattle.rbbi_cache.proofs.Answering.{answer_before, same_before, none_before_start, no_run}
 use Rattle.rbbi_cache.proofs.TriedBack.{start_is_last_of_none, cost_past_end}
 use Rattle.rbbi_model.specs.Costs.{forward_cost}
+use Rattle.rbbi_cache.proofs.Quieting.{none_quiet}
 use Rattle.rbbi_cache.proofs.cache.Cache.before.Goals as goal
+
+pub invariant_of-self : goal.invariant_of-self
+invariant_of-self g c = none_quiet _ 0 _ refl
 
 pub find_before-requires-clause-ordered : goal.find_before-requires-clause-ordered
 find_before-requires-clause-ordered g c =

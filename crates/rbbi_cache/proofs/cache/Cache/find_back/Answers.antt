@@ -1,36 +1,22 @@
-use Rattle.std.proofs.Common.{[], inl, sym, subst}
-use Rattle.rbbi_cache.specs.Kept.{KeptRuns, AreTrueRuns, Keeps}
-use Rattle.rbbi_cache.specs.Shown.{IsShownBefore}
-use Rattle.rbbi_cache.proofs.Keeping.{keeps_added}
-use Rattle.rbbi_cache.proofs.RightPart.{entries_rise}
-use Rattle.rbbi_cache.proofs.Answering.{is_last_before}
+use Rattle.std.proofs.Common.{◌+◌, ◌≤◌, subst}
+use Rattle.rbbi_model.specs.Costs.{back_cost}
 use Rattle.rbbi_cache.proofs.cache.Cache.find_back.Goals as goal
 
-pub add-requires : goal.add-requires
-add-requires g c =
-    let ready = c.in-Some.ensures.found [] in
-    entries_rise c.args.table.now c.valid.ensures (g.T.Chars.characters c.args.text.now) c.search_back.new.run ready.is_true
+pub find_back_near-requires-clause-are_true : goal.find_back_near-requires-clause-are_true
+find_back_near-requires-clause-are_true g c = rw c.new-near.ensures c.requires.are_true
+
+pub find_back_near-requires-clause-within : goal.find_back_near-requires-clause-within
+find_back_near-requires-clause-within g c = rw c.new-near.ensures c.requires.within
 
 pub returns-clause-answer : goal.returns-clause-answer
-returns-clause-answer g c =
-    let ready = c.in-Some.ensures.found c.args.self.now.runs in
-    is_last_before c.args.table.now c.valid.ensures (g.T.Chars.characters c.args.text.now) c.search_back.new.run ready.is_true c.args.i c.in-Some.entry
-    ready.shows
+returns-clause-answer g c = rw c.new-near.ensures at c.find_back_near.ensures.answer
 
 pub returns-clause-kept : goal.returns-clause-kept
-returns-clause-kept g c =
-    let ready = c.in-Some.ensures.found c.self.inside.runs in
-    inl (subst (λ (s : KeptRuns). Keeps c.args.table.now (g.T.Chars.characters c.args.text.now) (λ r. IsShownBefore (g.T.Chars.characters c.args.text.now) r
-    c.args.i c.in-Some.entry) s.runs c.add.new.self) c.self.view_is
-    (keeps_added c.args.table.now c.valid.ensures (g.T.Chars.characters c.args.text.now) (λ r. IsShownBefore (g.T.Chars.characters c.args.text.now) r c.args.i
-    c.in-Some.entry) c.self.inside.runs
-    (subst (λ (s : KeptRuns). AreTrueRuns c.args.table.now (g.T.Chars.characters c.args.text.now) s.runs) (sym c.self.view_is) c.requires.are_true)
-    c.search_back.new.run ready.is_true ready.shows ready.reaches c.add.new.self c.add.ensures).0)
+returns-clause-kept g c = rw c.new-near.ensures at c.find_back_near.ensures.kept
 
 pub returns-clause-are_true : goal.returns-clause-are_true
-returns-clause-are_true g c =
-    let ready = c.in-Some.ensures.found c.self.inside.runs in
-    (keeps_added c.args.table.now c.valid.ensures (g.T.Chars.characters c.args.text.now) (λ r. IsShownBefore (g.T.Chars.characters c.args.text.now) r c.args.i
-    c.in-Some.entry) c.self.inside.runs
-    (subst (λ (s : KeptRuns). AreTrueRuns c.args.table.now (g.T.Chars.characters c.args.text.now) s.runs) (sym c.self.view_is) c.requires.are_true)
-    c.search_back.new.run ready.is_true ready.shows ready.reaches c.add.new.self c.add.ensures).1
+returns-clause-are_true g c = rw c.new-near.ensures at c.find_back_near.ensures.are_true
+
+pub returns-clause-cost : goal.returns-clause-cost
+returns-clause-cost g c =
+    subst (λ x. c.find_back_near.new.steps ≤ c.args.steps.now + back_cost c.args.table.now x c.args.i) c.new-near.ensures c.find_back_near.ensures.cost

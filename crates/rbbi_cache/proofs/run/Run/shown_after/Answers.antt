@@ -4,13 +4,18 @@ use Rattle.rbbi_model.specs.Runs.{low}
 use Rattle.rbbi_model.specs.Runs.{Entry, Run}
 use Rattle.rbbi_cache.specs.inner.Shown.{AreUpTo}
 use Rattle.rbbi_cache.specs.Shown.{IsShownAfter}
-use Rattle.rbbi_cache.proofs.Showing.{none_past, none_shown, shown_next}
+use Rattle.rbbi_cache.proofs.Showing.{none_past, none_shown, none_before_anchor, shown_next}
 use Rattle.rbbi_cache.proofs.run.Run.shown_after.Goals as goal
 
 -- the entry read from the list of the run's entries
 shown_at : (run : Run) (i k : ℕ) (entries : List Entry) (e : Entry) → entries ≡ run.entries → e ≡ get_or entries k e →
     IsShownAfter run i (get_or run.entries k e) → IsShownAfter run i e
 shown_at run i k entries e same is shown = subst (IsShownAfter run i) (sym (is ∙ ap (λ l. get_or l k e) same)) shown
+
+pub returns-then-i-anchor : goal.returns-then-i-anchor
+returns-then-i-anchor c =
+    none_before_anchor c.args.self.now c.requires.behind (record { at = 0; status = 0; reach = 0 }) c.args.i
+    (omega (arith, c.if-i-anchor.true, c.anchor-anchor.ensures))
 
 pub returns-then-k-entries : goal.returns-then-k-entries
 returns-then-k-entries c =

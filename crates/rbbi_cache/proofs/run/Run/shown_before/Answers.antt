@@ -3,13 +3,18 @@ use Rattle.std.specs.List.{AllByRecursion}
 use Rattle.rbbi_model.specs.Runs.{Entry, Run}
 use Rattle.rbbi_cache.specs.inner.Shown.{AreUpTo}
 use Rattle.rbbi_cache.specs.Shown.{IsShownBefore}
-use Rattle.rbbi_cache.proofs.Showing.{none_before, none_last, shown_last}
+use Rattle.rbbi_cache.proofs.Showing.{none_before, none_up_to_anchor, none_last, shown_last}
 use Rattle.rbbi_cache.proofs.run.Run.shown_before.Goals as goal
 
 -- the entry read from the list of the run's entries
 shown_at : (x : List ℕ) (run : Run) (i k : ℕ) (entries : List Entry) (e : Entry) → entries ≡ run.entries → e ≡ get_or entries k e →
     IsShownBefore x run i (get_or run.entries k e) → IsShownBefore x run i e
 shown_at x run i k entries e same is shown = subst (IsShownBefore x run i) (sym (is ∙ ap (λ l. get_or l k e) same)) shown
+
+pub returns-then-i-anchor : goal.returns-then-i-anchor
+returns-then-i-anchor c x same =
+    none_up_to_anchor c.args.self.now c.requires.behind (record { at = 0; status = 0; reach = 0 }) x c.args.i c.requires.some
+    (omega (arith, c.if-i-anchor.true, c.anchor-anchor.ensures))
 
 pub returns-then-k-eq0 : goal.returns-then-k-eq0
 returns-then-k-eq0 c x same =
