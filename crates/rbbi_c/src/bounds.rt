@@ -13,7 +13,7 @@ ghost use Rattle.rbbi_c.specs.inner.Bounds.{place_of, up_to, down_to};
 
 use rbbi_session::{Session, greatest};
 use rbbi_table::{FrontPlaces, Table};
-use rbbi_text::{Chars, Pieces, Steps, Unit, UnitText};
+use rbbi_text::{Chars, Near, Pieces, Steps, Unit, UnitText};
 use std::sync::ledger::Ledger;
 
 /// A boundary.
@@ -68,8 +68,8 @@ fn size(c: char, unit: Unit) -> u32
 
 /// The offset of a place, counted on from an earlier place and its offset.
 #[tactic(auto, using(crate::proofs::Found::counts_on))]
-pub(crate) fn counted_on<L: Ledger>(
-    text: &Pieces,
+pub(crate) fn counted_on<T: Chars, L: Ledger>(
+    text: &T,
     unit: Unit,
     from: u32,
     offset: u32,
@@ -77,10 +77,11 @@ pub(crate) fn counted_on<L: Ledger>(
     steps: &mut Steps<L>,
 ) -> u32
     requires order { from ≤ to }
-    requires within { to ≤ length text.now }
-    requires counted { offset ≡ offset_of unit text.now from }
-    requires small { offset_of unit text.now (length text.now) < 2 ^ 32 }
-    ensures { result ≡ offset_of unit text.now to }
+    requires within { to ≤ length (T.characters text.now) }
+    requires counted { offset ≡ offset_of unit (T.characters text.now) from }
+    requires small { offset_of unit (T.characters text.now) (length (T.characters text.now))
+        < 2 ^ 32 }
+    ensures { result ≡ offset_of unit (T.characters text.now) to }
 {
     if let Unit::Chars = unit {
         return to;
@@ -202,10 +203,12 @@ pub(crate) fn next_bound<L: Ledger>(
     if bound.at >= text.len() {
         return None;
     }
-    let found = table.next(text, bound.at, marks, steps);
+    // A search from one boundary to the next mostly stays in one piece.
+    let near = Near::new(text, bound.at);
+    let found = table.next(&near, bound.at, marks, steps);
     Some(Bound {
         at: found.at,
-        offset: counted_on(text, unit, bound.at, bound.offset, found.at, steps),
+        offset: counted_on(&near, unit, bound.at, bound.offset, found.at, steps),
         status: greatest(table.status_list(found.status)),
     })
 }

@@ -5,5 +5,5 @@ use Rattle.rbbi_c.proofs.bounds.counted_on.Goals as goal
 
 pub returns-in-Chars : goal.returns-in-Chars
 returns-in-Chars g c =
-    let x = c.args.text.now in
+    let x = g.T.Chars.characters c.args.text.now in
     subst (λ u. c.args.to ≡ offset_of u x c.args.to) (sym c.in-Chars.is) (sym (offset_of_chars x c.args.to c.requires.within))
