@@ -28,7 +28,6 @@ use rbbi_io::{ReadErr, Sink, put_all, read_at_most};
 use rbbi_table::Table;
 use rbbi_text::{Steps, Unit, append};
 use std::alloc::{AllocError, Global};
-use std::collections::BTreeMap;
 use std::io::Read;
 use std::sync::ledger::Ledger;
 
@@ -123,13 +122,7 @@ fn put_segments<R: Read, K: Sink, L: Ledger>(
             )
         }
         Format::Count => {
-            let counts = BTreeMap::new(alloc);
-            let made = Vec::new(alloc);
-            let mut receiver = Tally {
-                wanted,
-                counts,
-                made,
-            };
+            let mut receiver = Tally::new(alloc, wanted);
             hand_over(
                 origin,
                 table,
