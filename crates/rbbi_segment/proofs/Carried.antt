@@ -1,9 +1,8 @@
 -- What is put of the segments by a table that gives the boundaries of UAX #29 is put of those by the annex.
 use Rattle.std.proofs.Common.{◌≡◌, ℕ, ◌+◌, ◌<◌, Bool, ◌==◌, List, length, take, get_or, Option, Some, sym, ap, subst, arith, length-take-le}
-use Rattle.std.specs.Prelude.{Result, Ok, Err, OnOk, IfOk, IfSome, if◌then◌else◌, chars}
+use Rattle.std.specs.Prelude.{Result, Ok, Err, OnOk, IfOk, IfSome}
 use Rattle.std.specs.Borrow.{Bor}
 use Rattle.std.proofs.lemmas.List.{take_more}
-use Rattle.std.specs.Str.Lossy.{utf8_lossy}
 use Rattle.std.proofs.lemmas.Option.{IfSome_then}
 use Rattle.rbbi_model.specs.declared.unit.Unit.{Unit as TextUnit}
 use Rattle.rbbi_model.specs.Words.{IsText}
@@ -42,15 +41,6 @@ pub of_file : {T E : Type 0} (r : Result T E) → IfOk r (λ _. Unit {0})
 of_file (Ok value) = tt
 of_file (Err e) = tt
 
--- what is put of the text of the bytes that a reader gives
-pub text_taken : (kind : Kind) (table : Table) (request : Request) (f : Option Filter) (colors : Colors) (remaining : Option (List ℕ))
-    (bytes given : List ℕ) (before now : Option (List ℕ)) → GivesAnnex kind table → ((x : List ℕ) → IsText x → IsText (searched f x))
-    → IsText (chars bytes) → IsGiven remaining given → bytes ≡ (if request.is_lossy then utf8_lossy given else given)
-    → IfSome (lines_in request.format request.wanted colors (chars bytes) (segments request.unit f table (chars bytes))) (Takes before now)
-    → (x : List ℕ) × IsTextGiven request.is_lossy remaining x × TakesAnnex kind request f colors x before now
-text_taken kind table request f colors remaining bytes given before now gives texts is of same taken =
-    (chars bytes, (given, of, ap chars same), annex_taken kind table request f colors (chars bytes) before now gives (texts (chars bytes) is) taken)
-
 -- the bytes of a reader that gives what the name holds are held
 pub held : (contents : Option (List ℕ → List ℕ)) (remaining : Option (List ℕ)) (name bytes : List ℕ)
     → IfSome contents (λ held. remaining ≡ Some (held name)) → IsGiven remaining bytes → IsHeld contents name bytes
@@ -59,19 +49,20 @@ held contents remaining name bytes opened given other =
     (λ held same. subst (λ r. IsGiven r bytes) same given)
 
 -- what putting the text that a reader gives answers, in a format
-abbrev pub PutsIn : {T E : Type 0} → Result T E → Option (List ℕ) → Wanted → Colors → TextUnit → Option Filter → Table → Option (List ℕ) → Option (List ℕ)
+abbrev pub PutsIn : {T E : Type 0} → Result T E → Bool → Option (List ℕ) → Wanted → Colors → TextUnit → Option Filter → Table → Option (List ℕ) → Option (List ℕ)
     → Format → Type 0
-PutsIn r remaining wanted colors unit f table before now format = OnOk r ((bytes : List ℕ) × IsGiven remaining bytes × IsText (chars bytes)
-    × IfSome (lines_in format wanted colors (chars bytes) (segments unit f table (chars bytes))) (Takes before now))
+PutsIn r is_lossy remaining wanted colors unit f table before now format = OnOk r ((x : List ℕ) × IsTextGiven is_lossy remaining x × IsText x
+    × IfSome (lines_in format wanted colors x (segments unit f table x)) (Takes before now))
 
 -- one text more was taken, with its heading
 pub more_taken : (kind : Kind) (request : Request) (f : Option Filter) (colors : Colors) (texts : Option (List ℕ → List ℕ))
     (before so_far headed now : Option (List ℕ)) (is_first : Bool) (names read : List (Bor (List ℕ))) (i : ℕ) (d : Bor (List ℕ)) → read ≡ names
     → i < length read → is_first ≡ (i == 0) → AreTakenInTurn (TakesText kind request f colors texts) before (take i names) so_far
-    → Takes so_far headed (heading_of request is_first (get_or read i d).now)
-    → ((x : List ℕ) × IsTextOf request.is_lossy texts (get_or read i d).now x × TakesAnnex kind request f colors x headed now)
+    → Takes so_far headed (heading_of request is_first (get_or read i d).now) → (is_lossy : Bool) → is_lossy ≡ request.is_lossy
+    → ((x : List ℕ) × IsTextOf is_lossy texts (get_or read i d).now x × TakesAnnex kind request f colors x headed now)
     → AreTakenInTurn (TakesText kind request f colors texts) before (take (i + 1) names) now
-more_taken kind request f colors texts before so_far headed now is_first names read i d same within first taken heading text =
+more_taken kind request f colors texts before so_far headed now is_first names read i d same within first taken heading is_lossy asked_for put =
+    let text = subst (λ b. (x : List ℕ) × IsTextOf b texts (get_or read i d).now x × TakesAnnex kind request f colors x headed now) asked_for put in
     let Takes_it : ℕ → List ℕ → Option (List ℕ) → Option (List ℕ) → Type 0 = TakesText kind request f colors texts in
     let inside : i < length names = subst (λ l. i < length l) same within in
     let here : Takes_it i (get_or read i d).now so_far now =

@@ -17,6 +17,7 @@ use Rattle.rbbi_filter.specs.Abbreviations.{ends, window}
 use Rattle.rbbi_filter.specs.Pairs.{turn}
 use Rattle.rbbi_filter.specs.declared.filter.Filter.{Filter}
 use Rattle.rbbi_filter.specs.declared.filter.Filter.TheVariants.{Suppressing, Turning}
+use Rattle.rbbi_segment.specs.Closed.{EndLines}
 use Rattle.rbbi_segment.specs.Filters.{searched, reports}
 use Rattle.rbbi_segment.specs.Windows.{IsWindow}
 
@@ -93,14 +94,15 @@ module _ (base : ℕ) (w rest x : List ℕ) (is : IsWindow base w rest x) where
       slice_is (j - 64) j (omega arith) high ∙ ap (λ i. slice_range x i (base + j)) from
 
   -- a boundary is reported in the window if it is in the text
-  pub reports_same : (f : Option Filter) (j : ℕ) → 0 < j → j ≤ length w → (base ≡ 0) ⊎ (64 ≤ j) → (j < length w) ⊎ (rest ≡ [])
-      → reports f w j ≡ reports f x (base + j)
-  reports_same None j some high far how = refl
-  reports_same (Some (Turning pairs)) j some high far how = refl
-  reports_same (Some (Suppressing list)) j some high far how =
+  pub reports_same : (f : Option Filter) (table : Table) (j : ℕ) → 0 < j → j ≤ length w → (base ≡ 0) ⊎ (64 ≤ j)
+      → (j < length w) ⊎ ((rest ≡ []) ⊎ EndLines f table) → reports f w j ≡ reports f x (base + j)
+  reports_same None table j some high far how = refl
+  reports_same (Some (Turning pairs)) table j some high far how = refl
+  reports_same (Some (Suppressing list)) table j some high far how =
       let first : nat_lt 0 j ≡ nat_lt 0 (base + j) = lt-ltb 0 j some ∙ sym (lt-ltb 0 (base + j) (omega (arith, some))) in
       ap (λ a. not (a && (nat_lt j (length w) && ends list (window w j)))) first
-      ∙ ap (λ b. not (nat_lt 0 (base + j) && (b && ends list (window w j)))) (same_end j how)
+      ∙ ap (λ b. not (nat_lt 0 (base + j) && (b && ends list (window w j))))
+      (same_end j (⊎_elim (λ less. inl less) (λ whole. inr (⊎_elim (λ none. none) (λ ends. absurd ends) whole)) how))
       ∙ ap (λ v. not (nat_lt 0 (base + j) && (nat_lt (base + j) (length x) && ends list v))) (same_window j high far)
 
 -- the searched window is one of the searched text

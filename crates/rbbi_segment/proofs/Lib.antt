@@ -1,7 +1,10 @@
 pub mod Buffered
 pub mod Carried
 pub mod Handed
+pub mod Closed
 pub mod InWindows
 pub mod Moved
+pub mod Replaced
+pub mod Spelled
 pub mod Streamed
 pub mod Written

@@ -8,24 +8,28 @@ use Rattle.rbbi_model.specs.Places.{largest}
 use Rattle.rbbi_model.specs.Boundaries.{Boundary}
 use Rattle.rbbi_model.specs.Tables.{Table, statuses_of}
 use Rattle.rbbi_model.specs.Searches.{look_end, found, next_boundary}
-use Rattle.rbbi_model.specs.ReadAlike.{ReadsAlike, FindsAlike}
+use Rattle.rbbi_model.specs.ReadAlike.{FindsAlike}
+use Rattle.rbbi_model.specs.ValidTables.{IsValidTable}
+use Rattle.rbbi_model.proofs.SearchesAlike.{finds_alike}
 use Rattle.rbbi_filter.specs.declared.filter.Filter.{Filter}
+use Rattle.rbbi_segment.specs.Closed.{EndLines, IsLine}
 use Rattle.rbbi_segment.specs.Filters.{searched, reports}
 use Rattle.rbbi_segment.specs.Segments.{segment_to}
 use Rattle.rbbi_segment.specs.Windows.{IsWindow, AreHandedTo, Stands, LiesIn, IsNextSegment}
 use Rattle.rbbi_segment.specs.declared.segments.Progress.{Progress}
 use Rattle.rbbi_segment.specs.declared.segments.Segment.{Segment}
 use Rattle.rbbi_segment.proofs.InWindows.{length_is, slice_is, offset_in, reads_alike, reports_same, searched_window, searched_none}
+use Rattle.rbbi_segment.proofs.Closed.{line_alike, searched_closed}
 use Rattle.rbbi_segment.proofs.Handed.{searched_len, handed_passed, handed_more}
 
 module _ {V : Type 0} (takes : V → Option (List ℕ) → List ℕ → Segment → V → Option (List ℕ) → Type 0)
     (pauses : V → Option (List ℕ) → V → Option (List ℕ) → Type 0) (unit : TextUnit) (f : Option Filter) (table : Table)
     (base : ℕ) (w rest x : List ℕ) (first : V) (before : Option (List ℕ)) (is : IsWindow base w rest x)
-    (law : (y z : List ℕ) (s t : ℕ) → ReadsAlike table y z s t → FindsAlike table y z s t)
+    (valid : IsValidTable table)
     (progress : Progress) (receiver : V) (now : Option (List ℕ)) (at : ℕ) (lies : LiesIn w progress)
     (inside : progress.at < length w) (past : progress.at < at) (high : at ≤ length w)
     (finds : at ≡ (found table (searched f w) progress.at).at)
-    (how : ((look_end table (searched f w) progress.at ≤ length w) × (at < length w)) ⊎ (rest ≡ []))
+    (how : ((look_end table (searched f w) progress.at ≤ length w) × (at < length w)) ⊎ ((rest ≡ []) ⊎ (EndLines f table × IsLine w)))
     (stands : Stands takes pauses unit f table x base first before progress receiver now) where
   abbrev w' : List ℕ
   w' = searched f w
@@ -41,9 +45,16 @@ module _ {V : Type 0} (takes : V → Option (List ℕ) → List ℕ → Segment 
 
   alike : FindsAlike table w' z progress.at (base + progress.at)
   alike =
-      law w' z progress.at (base + progress.at)
-      (reads_alike base w' (searched f rest) z here table progress.at (omega (arith, inside, long))
-      (⊎_elim (λ final. inl (omega (arith, final.0, long))) (λ none. inr (searched_none f rest none)) how))
+      let low : progress.at < length w' = omega (arith, inside, long) in
+      let reads : (look_end table w' progress.at ≤ length w') ⊎ (searched f rest ≡ []) → FindsAlike table w' z progress.at (base + progress.at) =
+      λ ends. finds_alike table w' z progress.at (base + progress.at) (reads_alike base w' (searched f rest) z here table progress.at low ends) in
+      ⊎_elim
+      (λ final. reads (inl (omega (arith, final.0, long))))
+      (λ whole. ⊎_elim
+      (λ none. reads (inr (searched_none f rest none)))
+      (λ line. line_alike table valid base w' (searched f rest) z here progress.at low (searched_closed f table w line.0 line.1))
+      whole)
+      how
 
   next_at : base + at ≡ (next_boundary table z (base + progress.at)).at
   next_at = let same = alike.at in omega (arith, same, finds)
@@ -59,8 +70,11 @@ module _ {V : Type 0} (takes : V → Option (List ℕ) → List ℕ → Segment 
 
   same_report : reports f w' at ≡ reports f z (base + at)
   same_report =
-      reports_same base w' (searched f rest) z here f at (omega (arith, past)) (omega (arith, high, long)) far
-      (⊎_elim (λ final. inl (omega (arith, final.1, long))) (λ none. inr (searched_none f rest none)) how)
+      reports_same base w' (searched f rest) z here f table at (omega (arith, past)) (omega (arith, high, long)) far
+      (⊎_elim
+      (λ final. inl (omega (arith, final.1, long)))
+      (λ whole. inr (⊎_elim (λ none. inl (searched_none f rest none)) (λ line. inr line.0) whole))
+      how)
 
   -- a boundary is passed that isn't reported
   pub stands_passed : reports f w' at ≡ false

@@ -1,5 +1,6 @@
 -- Characters as they are printed: those that would do something to a terminal as escapes.
-use Rattle.std.specs.Prelude.{ℕ, ◌+◌, ◌/◌, ◌%◌, List, [], ◌∷◌, ◌++◌, Bool, true, false, ◌||◌, ◌&&◌, if◌then◌else◌, ◌==◌, nat_lt, nat_le, codes, encode_utf8}
+use Rattle.std.specs.Prelude.{ℕ, ◌+◌, ◌/◌, ◌%◌, List, [], ◌∷◌, ◌++◌, Bool, true, false, not, ◌||◌, ◌&&◌, if◌then◌else◌, ◌==◌}
+use Rattle.std.specs.Prelude.{nat_lt, nat_le, codes, encode_utf8}
 use Rattle.rbbi_segment.specs.declared.escapes.Within.{Within}
 use Rattle.rbbi_segment.specs.declared.escapes.Within.TheVariants.{Nothing, Quotes, Json, Bare}
 
@@ -19,6 +20,10 @@ is_from first last n = nat_le first n && nat_le n last
 abbrev pub is_hidden : ℕ → Bool
 is_hidden c =
     nat_lt c 0x20 || is_from 0x7F 0x9F c || (c == 0x61C) || is_from 0x200E 0x200F c || is_from 0x2028 0x202E c || is_from 0x2066 0x2069 c
+
+-- printable ASCII, but for quotes and backslashes
+abbrev pub is_plain : ℕ → Bool
+is_plain c = is_from 0x20 0x7E c && not (c == 34) && not (c == 92)
 
 -- the escape of a character that isn't printed as it is
 abbrev pub escape_of : Within → ℕ → List ℕ

@@ -4,6 +4,8 @@ pub mod Lines
 pub mod Contents
 pub mod Filters
 pub mod Segments
+pub mod Closed
+pub mod Spelled
 pub mod Windows
 pub mod Headings
 pub mod RuleFiles

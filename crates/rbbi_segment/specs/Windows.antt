@@ -1,14 +1,13 @@
 -- A text that is seen through windows, and how far its segments were handed over.
-use Rattle.std.specs.Prelude.{◌≡◌, ℕ, ◌+◌, ◌-◌, ◌≤◌, ◌⊎◌, Bool, true, List, [], ◌++◌, length, drop, filter, Option, min, chars, slice_range, IsTrue}
-use Rattle.std.specs.Io.KnownBytes.{Consumes, IsAtEnd}
+use Rattle.std.specs.Prelude.{◌≡◌, ℕ, ◌+◌, ◌-◌, ◌≤◌, ◌⊎◌, Bool, true, List, [], ◌++◌, length, drop, filter, Option, min, slice_range, IsTrue}
 use Rattle.rbbi_model.specs.declared.unit.Unit.{Unit as TextUnit}
-use Rattle.rbbi_model.specs.Words.{IsText}
 use Rattle.rbbi_model.specs.Units.{offset_of}
 use Rattle.rbbi_model.specs.Places.{largest}
 use Rattle.rbbi_model.specs.Boundaries.{Boundary}
 use Rattle.rbbi_model.specs.Searches.{next_boundary, follow_by}
 use Rattle.rbbi_model.specs.Tables.{Table}
 use Rattle.rbbi_filter.specs.declared.filter.Filter.{Filter}
+use Rattle.rbbi_segment.specs.Closed.{EndLines, IsLine}
 use Rattle.rbbi_segment.specs.Filters.{searched, reports}
 use Rattle.rbbi_segment.specs.Segments.{segments_from, segments, AreTaken}
 use Rattle.rbbi_segment.specs.declared.segments.Progress.{Progress}
@@ -45,12 +44,14 @@ pub record Stands {V : Type 0} (takes : V → Option (List ℕ) → List ℕ →
   pub behind : (base ≡ 0) ⊎ (64 ≤ progress.at)
   pub handed : AreHandedTo takes pauses unit f table x first before receiver now progress.place (base + progress.at)
 
--- What the handing over within a window does, whatever text the window is one of: with `is_last` one that ends with it.
+-- What the handing over within a window does, whatever text the window is one of: with `is_whole` one that ends with it, or goes on after a
+-- line feed that ends lines.
 abbrev pub HandsOn : {V : Type 0} → (V → Option (List ℕ) → List ℕ → Segment → V → Option (List ℕ) → Type 0)
     → (V → Option (List ℕ) → V → Option (List ℕ) → Type 0) → TextUnit → Option Filter → Table → List ℕ → Bool → Progress → V
     → Option (List ℕ) → Progress → V → Option (List ℕ) → Type 0
-HandsOn {V} takes pauses unit f table window is_last progress receiver now later next then =
-    (base : ℕ) (rest x : List ℕ) (first : V) (before : Option (List ℕ)) → IsWindow base window rest x → (IsTrue is_last → rest ≡ [])
+HandsOn {V} takes pauses unit f table window is_whole progress receiver now later next then =
+    (base : ℕ) (rest x : List ℕ) (first : V) (before : Option (List ℕ)) → IsWindow base window rest x
+    → (IsTrue is_whole → (rest ≡ []) ⊎ (EndLines f table × IsLine window))
     → Stands takes pauses unit f table x base first before progress receiver now
     → Stands takes pauses unit f table x base first before later next then
 
@@ -66,17 +67,6 @@ pub record IsNextSegment (unit : TextUnit) (window : List ℕ) (progress : Progr
   pub start_offset : segment.start_offset ≡ progress.offset
   pub end_offset : segment.end_offset + offset_of unit window progress.start ≡ progress.offset + offset_of unit window at
   pub status : segment.status ≡ largest statuses
-
--- Some bytes were read, with those that waited they spell characters that were appended to the window, and others wait. With `is_last` the
--- text ends there.
-pub record Reads (remaining left : Option (List ℕ)) (waiting waits : List ℕ) (window longer : List ℕ) (is_last : Bool) : Type 0 where
-  pub bytes : List ℕ
-  pub characters : List ℕ
-  pub consumed : Consumes remaining left bytes
-  pub spelled : (others : List ℕ) → chars ((waiting ++ bytes) ++ others) ≡ characters ++ chars (waits ++ others)
-  pub text : IsText characters
-  pub grown : longer ≡ window ++ characters
-  pub ended : IsTrue is_last → IsAtEnd left × (waits ≡ [])
 
 -- the window without characters at its start, none of which is looked at again
 pub record IsShifted (window shifted : List ℕ) (progress later : Progress) : Type 0 where

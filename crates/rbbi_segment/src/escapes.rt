@@ -101,8 +101,28 @@ fn append_hidden(c: char, within: Within, out: &mut Vec<u8>) -> Result<(), Alloc
     }
 }
 
+/// Whether a character is one byte that is printed as it is anywhere: printable ASCII, but for
+/// quotes and backslashes.
+fn is_plain(c: char) -> bool
+    ensures { result ≡ spec.is_plain c }
+{
+    is_from(0x20, 0x7E, c as u32) && c != '"' && c != '\\'
+}
+
 /// Appends a character, or the escape of it. Quotes and backslashes are escaped in quotes.
+#[inline]
 pub(crate) fn append_character(c: char, within: Within, out: &mut Vec<u8>) -> Result<(), AllocError>
+    ensures { OnOk result (out.new.items ≡ out.old.items ++ spec.shown within c) }
+{
+    if is_plain(c) {
+        out.push(c as u8)?;
+        return Ok(());
+    }
+    append_other(c, within, out)
+}
+
+/// The same of any character.
+fn append_other(c: char, within: Within, out: &mut Vec<u8>) -> Result<(), AllocError>
     ensures { OnOk result (out.new.items ≡ out.old.items ++ spec.shown within c) }
 {
     if is_bare(within) {

@@ -49,8 +49,8 @@ static TEXTS: [FaultText; 44] = [
     FaultText {
         label: "NotUtf8",
         cause: "the file isn't UTF-8",
-        help: "Save it as UTF-8, or convert it, as with iconv -f UTF-16 -t UTF-8; a table file \
-               goes to --table.",
+        help: "Save it as UTF-8, or convert it from its encoding, as with iconv -f UTF-16 -t \
+               UTF-8; a table file goes to --table.",
     },
     FaultText {
         label: "BadChar",

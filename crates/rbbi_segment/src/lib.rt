@@ -15,6 +15,7 @@ mod fault_texts;
 mod faults;
 mod filters;
 mod hints;
+mod line_ends;
 mod linting;
 mod marked;
 mod missing;

@@ -5,7 +5,7 @@ ghost use Rattle.rbbi_model.specs.Words.{IsText};
 ghost use Rattle.rbbi_segment_tables.specs.Annexes.{GivesAnnex};
 ghost use Rattle.rbbi_segment_tables.specs.declared.loading.Kind.{Kind};
 ghost use Rattle.rbbi_segment.specs.Annexes.{AreTakenInTurn, TakesAnnex, TakesText, heading_of};
-ghost use Rattle.rbbi_segment.specs.Contents.{IsGiven, IsTextGiven, IsTextOf};
+ghost use Rattle.rbbi_segment.specs.Contents.{IsTextGiven, IsTextOf};
 ghost use Rattle.rbbi_segment.specs.Headings.{arrows, gap, heading};
 ghost use Rattle.rbbi_segment.specs.Lines.{lines, lines_in};
 ghost use Rattle.rbbi_segment.specs.Segments.{segments};
@@ -13,26 +13,24 @@ ghost use Rattle.rbbi_segment.specs.Segments.{segments};
 use crate::colors::Colors;
 use crate::escapes::{Within, append_characters, append_name};
 use crate::failure::Failure;
-use crate::faults::Place;
 use crate::filters::searches_texts;
 use crate::marked::Marked;
 use crate::options::{Format, Layout, Request};
 use crate::quoted::{Quoted, Style};
-use crate::reading::{TEXT_LIMIT, count_replaced};
 use crate::streaming::{Origin, hand_over};
 use crate::system::System;
 use crate::tally::Tally;
 use crate::wrapped::Wrapped;
 use rbbi_filter::Filter;
-use rbbi_io::{ReadErr, Sink, put_all, read_at_most};
+use rbbi_io::{Sink, put_all};
 use rbbi_table::Table;
 use rbbi_text::{Steps, Unit, append};
 use std::alloc::{AllocError, Global};
-use std::collections::BTreeMap;
 use std::io::Read;
 use std::sync::ledger::Ledger;
 
 /// Prints by itself each segment of a text by a table that is asked for, with offsets in the unit.
+/// It answers how many sequences of its bytes were replaced.
 fn put_lines<R: Read, K: Sink, L: Ledger>(
     origin: Origin<'_>,
     style: Style,
@@ -42,10 +40,11 @@ fn put_lines<R: Read, K: Sink, L: Ledger>(
     unit: Unit,
     out: &mut K,
     steps: &mut Steps<L>,
-) -> Result<(), Failure>
-    ensures { OnOk result ((bytes : List ℕ) × IsGiven (R.remaining reader.old) bytes
-        × IsText (chars bytes) × Takes (K.taken out.old) (K.taken out.new) (lines style
-        (chars bytes) (segments unit filter.now table.now (chars bytes)))) }
+) -> Result<u32, Failure>
+    ensures { OnOk result ((x : List ℕ)
+        × IsTextGiven origin.entry.is_lossy (R.remaining reader.old) x × IsText x
+        × Takes (K.taken out.old) (K.taken out.new)
+        (lines style x (segments unit filter.now table.now x))) }
 {
     let made = Vec::new(origin.alloc);
     let mut receiver = Quoted { style, made };
@@ -61,7 +60,8 @@ fn put_lines<R: Read, K: Sink, L: Ledger>(
     )
 }
 
-/// Prints the segments of a text by a table and a filter, in the format that is asked for.
+/// Prints the segments of a text by a table and a filter, in the format that is asked for. It
+/// answers how many sequences of its bytes were replaced.
 fn put_segments<R: Read, K: Sink, L: Ledger>(
     origin: Origin<'_>,
     request: &Request<'_>,
@@ -71,10 +71,11 @@ fn put_segments<R: Read, K: Sink, L: Ledger>(
     colors: Colors,
     out: &mut K,
     steps: &mut Steps<L>,
-) -> Result<(), Failure>
-    ensures { OnOk result ((bytes : List ℕ) × IsGiven (R.remaining reader.old) bytes
-        × IsText (chars bytes) × IfSome (lines_in request.now.format request.now.wanted colors
-        (chars bytes) (segments request.now.unit filter.now table.now (chars bytes)))
+) -> Result<u32, Failure>
+    ensures { OnOk result ((x : List ℕ)
+        × IsTextGiven origin.entry.is_lossy (R.remaining reader.old) x × IsText x
+        × IfSome (lines_in request.now.format request.now.wanted colors
+        x (segments request.now.unit filter.now table.now x))
         (Takes (K.taken out.old) (K.taken out.new))) }
 {
     let alloc = origin.alloc;
@@ -123,13 +124,7 @@ fn put_segments<R: Read, K: Sink, L: Ledger>(
             )
         }
         Format::Count => {
-            let counts = BTreeMap::new(alloc);
-            let made = Vec::new(alloc);
-            let mut receiver = Tally {
-                wanted,
-                counts,
-                made,
-            };
+            let mut receiver = Tally::new(alloc, wanted);
             hand_over(
                 origin,
                 table,
@@ -157,27 +152,11 @@ fn put_text<R: Read, K: Sink, L: Ledger>(
     steps: &mut Steps<L>,
 ) -> Result<u32, Failure>
     ensures { (kind : Kind) → GivesAnnex kind table.now → OnOk result ((x : List ℕ)
-        × IsTextGiven request.now.is_lossy (R.remaining reader.old) x
+        × IsTextGiven origin.entry.is_lossy (R.remaining reader.old) x
         × TakesAnnex kind request.now filter.now colors x (K.taken out.old) (K.taken out.new)) }
 {
     searches_texts(filter);
-    if !request.is_lossy {
-        put_segments(origin, request, table, filter, reader, colors, out, steps)?;
-        return Ok(0);
-    }
-    let raw = match read_at_most(origin.alloc, reader, TEXT_LIMIT) {
-        Ok(raw) => raw,
-        Err(ReadErr::TooLong) => return Err(origin.fault("TooLong", Place::Whole)),
-        Err(ReadErr::Failed) => return Err(origin.unread()),
-        Err(ReadErr::Memory) => return Err(Failure::Memory),
-    };
-    let bytes = raw.bytes(steps);
-    let text = String::from_utf8_lossy(origin.alloc, bytes)?;
-    let mut rest = text.as_bytes();
-    put_segments(
-        origin, request, table, filter, &mut rest, colors, out, steps,
-    )?;
-    Ok(count_replaced(bytes))
+    put_segments(origin, request, table, filter, reader, colors, out, steps)
 }
 
 /// Prints the segments of the text with this name, or of the standard input if it is `-`. It
@@ -194,7 +173,7 @@ fn put_named<S: System, R: Read, K: Sink, L: Ledger>(
     steps: &mut Steps<L>,
 ) -> Result<u32, Failure>
     ensures { (kind : Kind) → GivesAnnex kind table.now → OnOk result ((x : List ℕ)
-        × IsTextOf request.now.is_lossy (S.contents system.now) origin.entry.name.now x
+        × IsTextOf origin.entry.is_lossy (S.contents system.now) origin.entry.name.now x
         × TakesAnnex kind request.now filter.now colors x (K.taken out.old) (K.taken out.new)) }
 {
     if origin.name == "-" {
@@ -298,6 +277,7 @@ pub(crate) fn put_texts<S: System, R: Read, K: Sink, L: Ledger>(
     out: &mut K,
     steps: &mut Steps<L>,
 ) -> Result<Vec<u32>, Failure>
+    requires { origin.is_lossy ≡ request.now.is_lossy }
     ensures { (kind : Kind) → GivesAnnex kind table.now → OnOk result (AreTakenInTurn
         (TakesText kind request.now filter.now colors (S.contents system.now))
         (K.taken out.old) request.now.names.items (K.taken out.new)) }

@@ -52,6 +52,7 @@ fn perform<F: Files, R: Read, K: Sink, S: System, L: Ledger>(
         name: "-",
         colors: faults,
         sizes: surroundings.sizes,
+        is_lossy: request.is_lossy,
     };
     match request.task {
         Task::Check => Ok(Vec::new(alloc)),

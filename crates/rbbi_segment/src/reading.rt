@@ -27,8 +27,8 @@ pub(crate) const TABLE_LIMIT: u64 = 100_663_296;
 /// The most bytes of a filter file.
 pub(crate) const FILTER_LIMIT: u64 = 65_536;
 
-/// The most bytes of a text.
-pub(crate) const TEXT_LIMIT: u64 = 67_108_864;
+/// The most bytes of a text that is explained.
+const TEXT_LIMIT: u64 = 67_108_864;
 
 /// All bytes of the file of this name, at most `limit`, or of the standard input if it is `-`. What
 /// the files hold stays.
@@ -102,7 +102,7 @@ fn lossy_text(alloc: Global, name: &str, bytes: &[u8], colors: Colors) -> Result
 }
 
 /// How many sequences of the bytes aren't UTF-8, each as long as it could begin a character.
-pub(crate) fn count_replaced(bytes: &[u8]) -> u32 {
+fn count_replaced(bytes: &[u8]) -> u32 {
     let mut count: u32 = 0;
     for chunk in bytes.utf8_chunks() {
         if !chunk.invalid().is_empty() {

@@ -147,23 +147,23 @@ fn reports<S: Chars, L: Ledger>(
 }
 
 /// Whether what was found in a window of so many characters is found in the whole text, too.
-fn is_final(found: Found, len: u32, is_last: bool) -> bool
-    ensures last { IsTrue is_last → IsTrue result }
-    ensures within { IsTrue result → IsTrue is_last ⊎ ((found.look ≤ len) × (found.at < len)) }
+fn is_final(found: Found, len: u32, is_whole: bool) -> bool
+    ensures whole { IsTrue is_whole → IsTrue result }
+    ensures within { IsTrue result → IsTrue is_whole ⊎ ((found.look ≤ len) × (found.at < len)) }
 {
-    is_last || (found.look <= len && found.at < len)
+    is_whole || (found.look <= len && found.at < len)
 }
 
 /// Hands the segments of a text over that end within a window of it, whose boundaries are looked
-/// for in `searched`. With `is_last` the text ends with the window, and all that are left are
-/// handed over; otherwise those that don't depend on what follows.
+/// for in `searched`. With `is_whole` nothing depends on what follows the window, and all that are
+/// left are handed over; otherwise those that don't.
 fn hand_searched<S: Chars, V: Receive, K: Sink, L: Ledger>(
     table: &Table,
     searched: &S,
     text: &PlainText,
     filter: &Option<Filter>,
     unit: Unit,
-    is_last: bool,
+    is_whole: bool,
     marks: &mut FrontPlaces,
     progress: Progress,
     receiver: &mut V,
@@ -175,9 +175,9 @@ fn hand_searched<S: Chars, V: Receive, K: Sink, L: Ledger>(
     requires fit { marks.old ≡ table.now.slashes }
     ensures fit { marks.new ≡ marks.old }
     ensures lies { IfOk result (λ later. LiesIn text.now later) }
-    ensures all { IsTrue is_last → IfOk result (λ later. length text.now ≤ later.at) }
+    ensures all { IsTrue is_whole → IfOk result (λ later. length text.now ≤ later.at) }
     ensures handed { IfOk result (λ later. HandsOn V.takes V.pauses unit filter.now
-        table.now text.now is_last progress receiver.old (K.taken out.old) later receiver.new
+        table.now text.now is_whole progress receiver.old (K.taken out.old) later receiver.new
         (K.taken out.new)) }
 {
     rbbi_model::next_boundary_is_past_the_start();
@@ -186,7 +186,7 @@ fn hand_searched<S: Chars, V: Receive, K: Sink, L: Ledger>(
     let mut now = progress;
     while now.at < len {
         let found = table.next(searched, now.at, marks, steps);
-        if !is_final(found, len, is_last) {
+        if !is_final(found, len, is_whole) {
             return Ok(now);
         }
         let at = found.at;
@@ -226,7 +226,7 @@ fn hand_turned<G: CharMap, V: Receive, K: Sink, L: Ledger>(
     map: &G,
     filter: &Option<Filter>,
     unit: Unit,
-    is_last: bool,
+    is_whole: bool,
     marks: &mut FrontPlaces,
     progress: Progress,
     receiver: &mut V,
@@ -239,26 +239,26 @@ fn hand_turned<G: CharMap, V: Receive, K: Sink, L: Ledger>(
     requires fit { marks.old ≡ table.now.slashes }
     ensures fit { marks.new ≡ marks.old }
     ensures lies { IfOk result (λ later. LiesIn text.now later) }
-    ensures all { IsTrue is_last → IfOk result (λ later. length text.now ≤ later.at) }
+    ensures all { IsTrue is_whole → IfOk result (λ later. length text.now ≤ later.at) }
     ensures handed { IfOk result (λ later. HandsOn V.takes V.pauses unit filter.now
-        table.now text.now is_last progress receiver.old (K.taken out.old) later receiver.new
+        table.now text.now is_whole progress receiver.old (K.taken out.old) later receiver.new
         (K.taken out.new)) }
 {
     let turned = Mapped::new(text, pairs, map);
     hand_searched(
-        table, &turned, text, filter, unit, is_last, marks, progress, receiver, out, steps,
+        table, &turned, text, filter, unit, is_whole, marks, progress, receiver, out, steps,
     )
 }
 
 /// Hands the segments of a text by a table over that a filter leaves and that end within a window
-/// of it, with offsets in the unit. With `is_last` the text ends with the window, and all that are
-/// left are handed over; otherwise those that don't depend on what follows.
+/// of it, with offsets in the unit. With `is_whole` nothing depends on what follows the window, and
+/// all that are left are handed over; otherwise those that don't.
 pub(crate) fn hand_window<V: Receive, K: Sink, L: Ledger>(
     table: &Table,
     filter: &Option<Filter>,
     text: &PlainText,
     unit: Unit,
-    is_last: bool,
+    is_whole: bool,
     marks: &mut FrontPlaces,
     progress: Progress,
     receiver: &mut V,
@@ -269,21 +269,21 @@ pub(crate) fn hand_window<V: Receive, K: Sink, L: Ledger>(
     requires fit { marks.old ≡ table.now.slashes }
     ensures fit { marks.new ≡ marks.old }
     ensures lies { IfOk result (λ later. LiesIn text.now later) }
-    ensures all { IsTrue is_last → IfOk result (λ later. length text.now ≤ later.at) }
+    ensures all { IsTrue is_whole → IfOk result (λ later. length text.now ≤ later.at) }
     ensures handed { IfOk result (λ later. HandsOn V.takes V.pauses unit filter.now
-        table.now text.now is_last progress receiver.old (K.taken out.old) later receiver.new
+        table.now text.now is_whole progress receiver.old (K.taken out.old) later receiver.new
         (K.taken out.new)) }
 {
     match filter {
         Some(Filter::Turning(pairs)) => {
             let map = |c: char| pairs.turn(c);
             hand_turned(
-                table, text, pairs, &map, filter, unit, is_last, marks, progress, receiver, out,
+                table, text, pairs, &map, filter, unit, is_whole, marks, progress, receiver, out,
                 steps,
             )
         }
         None | Some(Filter::Suppressing(_)) => hand_searched(
-            table, text, text, filter, unit, is_last, marks, progress, receiver, out, steps,
+            table, text, text, filter, unit, is_whole, marks, progress, receiver, out, steps,
         ),
     }
 }

@@ -1,19 +1,23 @@
 //! A text that is read and segmented by windows.
 //!
-//! A search from a boundary depends on the characters that it reads alone. So the window is searched
-//! until a search would read on at its end; then more of the text is read, and the search begins
-//! again. What stands before the segment of the moment is let go.
+//! A search from a boundary depends on the characters that it reads alone. So the window is
+//! searched until a search would read on at its end; then more of the text is read, and the search
+//! begins again. What stands before the segment of the moment is let go. A window that ends with a
+//! line feed is searched to its end, if no rule of the table goes on after one: so a line that is
+//! typed is answered at once.
 ghost use Rattle.std.specs.Prelude.{◌≡◌, ◌+◌, ◌-◌, ◌<◌, ◌≤◌, ◌++◌, ℕ, List, [], length, take, drop};
-ghost use Rattle.std.specs.Prelude.{OnOk, IfOk, IfSome, IsTrue, MatchResult, IsUtf8, chars};
+ghost use Rattle.std.specs.Prelude.{OnOk, IfOk, IsTrue, IsUtf8, chars};
 ghost use Rattle.std.specs.Io.KnownBytes.{Consumes, IsAtEnd, Keeps};
 ghost use Rattle.rbbi_model.specs.Words.{IsText};
-ghost use Rattle.rbbi_segment.specs.Contents.{IsGiven};
+ghost use Rattle.rbbi_segment.specs.Contents.{IsTextGiven};
 ghost use Rattle.rbbi_segment.specs.Segments.{segments, TakesAll};
-ghost use Rattle.rbbi_segment.specs.Windows.{IsShifted, LiesIn, Reads};
+ghost use Rattle.rbbi_segment.specs.Spelled.{IsFront, IsSpelled, Reads, marks};
+ghost use Rattle.rbbi_segment.specs.Windows.{IsShifted, LiesIn};
 
 use crate::colors::Colors;
 use crate::failure::{Failure, IS_REFUSED};
 use crate::faults::{Place, fault_of};
+use crate::line_ends::{end_lines, is_whole};
 use crate::segments::{Progress, Receive, hand_window};
 use rbbi_filter::Filter;
 use rbbi_io::Sink;
@@ -54,6 +58,8 @@ pub(crate) struct Origin<'a> {
     pub(crate) name: &'a str,
     pub(crate) colors: Colors,
     pub(crate) sizes: Sizes,
+    /// Whether U+FFFD stands for each sequence that isn't UTF-8.
+    pub(crate) is_lossy: bool,
 }
 
 impl Origin<'_> {
@@ -96,22 +102,42 @@ fn read_block<R: Read>(
     Err(origin.unread())
 }
 
-/// How many of the bytes spell characters that are whole. At the end of the text all do; before it
-/// up to three bytes may begin one that isn't. Refused with the first byte that is no part of a
-/// character.
-fn whole_length(bytes: &[u8], is_last: bool) -> Result<usize, usize>
-    ensures within { IfOk result (λ count. count ≤ length bytes.now) }
-    ensures characters { IfOk result (λ count. IsUtf8 (take count bytes.now)) }
-    ensures all { IfOk result (λ count. IsTrue is_last → count ≡ length bytes.now) }
+/// What bytes begin with.
+#[derive(Drop)]
+struct Front<'a> {
+    /// The longest text, or the one up to the first ill-formed sequence that is replaced.
+    text: &'a str,
+    /// How many bytes follow it that a U+FFFD replaces.
+    replaced: usize,
+}
+
+/// The text of so many bytes, and how many that follow are replaced.
+fn front_up_to(bytes: &[u8], end: usize, replaced: usize) -> Front<'_>
+    requires within { end ≤ length bytes.now }
+    requires utf8 { IsUtf8 (take end bytes.now) }
+    ensures text { result.text.now ≡ take end bytes.now }
+    ensures replaced { result.replaced ≡ replaced }
+{
+    let text = unsafe { std::str::from_utf8_unchecked(&bytes[..end]) };
+    Front { text, replaced }
+}
+
+/// What the bytes begin with: a text, and the ill-formed sequence that follows it, if `is_lossy`.
+/// Without `is_last` more bytes follow these, and up to three that begin a character are left.
+/// Refused with the first byte that is no part of a character, unless `is_lossy`.
+fn front_of(bytes: &[u8], is_lossy: bool, is_last: bool) -> Result<Front<'_>, usize>
+    ensures { IfOk result (λ front.
+        IsFront is_lossy is_last bytes.now front.text.now front.replaced) }
 {
     match simdutf8::compat::from_utf8(bytes) {
-        Ok(_) => Ok(bytes.len()),
+        Ok(text) => Ok(Front { text, replaced: 0 }),
         Err(fault) => {
             let end = fault.valid_up_to();
-            if fault.error_len().is_none() && !is_last {
-                Ok(end)
-            } else {
-                Err(end)
+            match fault.error_len() {
+                None if !is_last => Ok(front_up_to(bytes, end, 0)),
+                None if is_lossy => Ok(front_up_to(bytes, end, bytes.len() - end)),
+                Some(replaced) if is_lossy => Ok(front_up_to(bytes, end, replaced)),
+                _ => Err(end),
             }
         }
     }
@@ -126,6 +152,8 @@ struct Feed {
     waiting: Vec<u8>,
     /// How many bytes stand before those.
     before: u64,
+    /// How many ill-formed sequences were replaced.
+    replaced: u32,
 }
 
 /// This many zeros.
@@ -145,11 +173,12 @@ impl Feed {
             block: zeros(origin.alloc, origin.sizes.block.max(1) as usize)?,
             waiting: Vec::new(origin.alloc),
             before: 0,
+            replaced: 0,
         })
     }
 
-    /// Reads once, and appends the characters that are whole then to the window. It answers whether
-    /// the text ends there.
+    /// Reads once, and appends what the bytes spell to the window, up to a character that isn't
+    /// whole. It answers whether the text ends there.
     fn more<R: Read>(
         &mut self,
         origin: Origin<'_>,
@@ -158,45 +187,80 @@ impl Feed {
     ) -> Result<bool, Failure>
         requires some { 0 < length self.old.block.items }
         ensures some { length self.new.block.items ≡ length self.old.block.items }
-        ensures reads { IfOk result (λ is_last. Reads (R.remaining reader.old)
-            (R.remaining reader.new) self.old.waiting.items self.new.waiting.items
-            window.old window.new is_last) }
+        ensures reads { IfOk result (λ is_last. Reads origin.entry.is_lossy
+            (R.remaining reader.old) (R.remaining reader.new) self.old.waiting.items
+            self.new.waiting.items window.old window.new is_last) }
     {
         let count = read_block(origin, reader, &mut self.block)?;
         self.waiting.extend_from_slice(&self.block[..count])?;
         let is_last = count == 0;
-        let end = match whole_length(&self.waiting, is_last) {
-            Ok(end) => end,
-            Err(end) => {
-                let at = self.before.saturating_add(end as u64);
-                return Err(origin.fault("NotUtf8", Place::Byte(at)));
-            }
-        };
-        append_characters(origin, &self.waiting[..end], window)?;
+        let (waiting, before) = (&self.waiting, self.before);
+        let end = append_spelled(origin, waiting, before, is_last, window, &mut self.replaced)?;
         self.waiting = self.waiting[end..].to_vec(origin.alloc)?;
         self.before = self.before.saturating_add(end as u64);
         Ok(is_last)
     }
 }
 
-/// Appends the characters that the bytes spell to the window.
-fn append_characters(
-    origin: Origin<'_>,
-    bytes: &[u8],
-    window: &mut PlainText,
-) -> Result<(), Failure>
-    requires { IsUtf8 bytes.now }
-    ensures { OnOk result (window.new ≡ window.old ++ chars bytes.now) }
+/// Appends the characters of the text to the window.
+fn append_text(origin: Origin<'_>, text: &str, window: &mut PlainText) -> Result<(), Failure>
+    ensures { OnOk result (window.new ≡ window.old ++ chars text.now) }
 {
-    let Ok(text) = simdutf8::compat::from_utf8(bytes) else {
-        return Ok(());
-    };
     let end = window.len();
     match window.replace(end, 0, text) {
         Ok(()) => Ok(()),
         Err(EditErr::Memory) => Err(Failure::Memory),
         Err(_) => Err(origin.fault("SegmentTooLong", Place::Whole)),
     }
+}
+
+/// Appends a text to the window, and U+FFFD if bytes after it are replaced.
+fn append_front(
+    origin: Origin<'_>,
+    front: &Front<'_>,
+    window: &mut PlainText,
+) -> Result<(), Failure>
+    ensures { OnOk result (window.new ≡ window.old
+        ++ (chars front.now.text.now ++ marks front.now.replaced)) }
+{
+    append_text(origin, front.text, window)?;
+    if front.replaced == 0 {
+        return Ok(());
+    }
+    append_text(origin, "\u{FFFD}", window)
+}
+
+/// Appends what the bytes spell to the window, up to a character that isn't whole, and counts the
+/// ill-formed sequences that are replaced. It answers how many of the bytes those are. `before`
+/// stand before them.
+fn append_spelled(
+    origin: Origin<'_>,
+    bytes: &[u8],
+    before: u64,
+    is_last: bool,
+    window: &mut PlainText,
+    replaced: &mut u32,
+) -> Result<usize, Failure>
+    ensures { IfOk result (λ end. IsSpelled origin.entry.is_lossy is_last bytes.now end
+        window.old window.new × (IsTrue is_last → end ≡ length bytes.now)) }
+{
+    let mut at = 0;
+    while at < bytes.len() {
+        let front = match front_of(&bytes[at..], origin.is_lossy, is_last) {
+            Ok(front) => front,
+            Err(end) => {
+                let place = before.saturating_add(at as u64).saturating_add(end as u64);
+                return Err(origin.fault("NotUtf8", Place::Byte(place)));
+            }
+        };
+        append_front(origin, &front, window)?;
+        at += front.text.len() + front.replaced;
+        if front.replaced == 0 {
+            return Ok(at);
+        }
+        *replaced = replaced.saturating_add(1);
+    }
+    Ok(at)
 }
 
 /// Lets the characters of the window go that nothing looks at any more.
@@ -230,8 +294,9 @@ fn nothing(alloc: Global) -> Result<PlainText, Failure>
 }
 
 /// Hands all segments of the text that a reader gives over, by a table and a filter, in their
-/// order, with offsets in the unit. The bytes are refused if they aren't UTF-8, and a segment that
-/// doesn't fit a window.
+/// order, with offsets in the unit. It answers how many sequences of the bytes were replaced. They
+/// are refused if they aren't UTF-8 and none is to be replaced, and a segment that doesn't fit a
+/// window.
 pub(crate) fn hand_over<R: Read, V: Receive, K: Sink, L: Ledger>(
     origin: Origin<'_>,
     table: &Table,
@@ -241,28 +306,30 @@ pub(crate) fn hand_over<R: Read, V: Receive, K: Sink, L: Ledger>(
     receiver: &mut V,
     out: &mut K,
     steps: &mut Steps<L>,
-) -> Result<(), Failure>
-    ensures { OnOk result ((bytes : List ℕ) × IsGiven (R.remaining reader.old) bytes
-        × IsText (chars bytes) × TakesAll V.takes V.pauses V.ends (chars bytes)
-        (segments unit filter.now table.now (chars bytes))
+) -> Result<u32, Failure>
+    ensures { OnOk result ((x : List ℕ)
+        × IsTextGiven origin.entry.is_lossy (R.remaining reader.old) x × IsText x
+        × TakesAll V.takes V.pauses V.ends x (segments unit filter.now table.now x)
         receiver.old (K.taken out.old) (K.taken out.new)) }
 {
     let mut feed = Feed::new(origin)?;
     let mut window = nothing(origin.alloc)?;
     let mut marks = FrontPlaces::new(origin.alloc, table)?;
     let mut progress = Progress::START;
+    let lines_end = end_lines(table, filter);
     let mut enough = 0;
     for _turn in 0..u64::MAX {
         let is_last = feed.more(origin, reader, &mut window)?;
-        if !is_last && window.len() < enough {
+        let all = is_whole(&window, is_last, lines_end, steps);
+        if !all && window.len() < enough {
             continue;
         }
         progress = hand_window(
-            table, filter, &window, unit, is_last, &mut marks, progress, receiver, out, steps,
+            table, filter, &window, unit, all, &mut marks, progress, receiver, out, steps,
         )?;
         if is_last {
             receiver.end(out)?;
-            return Ok(());
+            return Ok(feed.replaced);
         }
         receiver.pause(out)?;
         progress = shift(&mut window, progress)?;

@@ -1,4 +1,3 @@
-use Rattle.std.specs.Prelude.{chars}
 use Rattle.rbbi_segment.specs.Segments.{segments}
 use Rattle.rbbi_segment.proofs.Handed.{on_ok}
 use Rattle.rbbi_segment.proofs.Written.{all_put}
@@ -11,7 +10,7 @@ returns g c =
       all.0,
       all.1,
       all.2,
-      all_put (chars all.0) _ (g.K.Sink.taken c.args.out.now) (g.K.Sink.taken c.hand_over.new.out)
-          (segments c.args.unit c.args.filter.now c.args.table.now (chars all.0)) c.new-made.ensures.items all.3,
+      all_put all.0 _ (g.K.Sink.taken c.args.out.now) (g.K.Sink.taken c.hand_over.new.out)
+          (segments c.args.unit c.args.filter.now c.args.table.now all.0) c.new-made.ensures.items all.3,
     ))
     c.hand_over.ensures

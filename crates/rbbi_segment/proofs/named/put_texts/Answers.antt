@@ -23,7 +23,7 @@ loop-name-preserved g c =
           (g.K.Sink.taken c.loop-name.out) (g.K.Sink.taken c.put_heading.new.out) (g.K.Sink.taken c.put_named.new.out) c.is_empty.result
           c.args.request.now.names.items c.deref-name-items.result.now i _ c.deref-name-items.ensures.value c.loop-name-test.true
           (c.is_empty.ensures ∙ ap (λ n. n == 0) counted) (c.loop-name.invariant.taken kind gives) c.in_ok-put_heading.ensures
-          (c.in_ok-count.ensures kind gives);
+          c.args.origin.is_lossy c.requires (c.in_ok-count.ensures kind gives);
     }
 
 -- all names were taken

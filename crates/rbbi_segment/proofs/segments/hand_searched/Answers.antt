@@ -1,7 +1,6 @@
 use Rattle.std.proofs.Common.{◌≡◌, ◌<◌, true, false, ℕ, List, length, refl, sym, ap, ◌∙◌, subst, inl, inr, ⊎_elim, arith}
 use Rattle.rbbi_model.specs.Searches.{found, look_end, next_boundary}
 use Rattle.rbbi_model.specs.Tables.{statuses_of}
-use Rattle.rbbi_model.proofs.SearchesAlike.{finds_alike}
 use Rattle.rbbi_session.proofs.Reaching.{found_within}
 use Rattle.rbbi_segment.specs.Filters.{searched, reports}
 use Rattle.rbbi_segment.specs.Windows.{IsNextSegment}
@@ -76,7 +75,7 @@ loop-now-preserved-then-reports g c =
       fit = c.next-found.ensures.fit ∙ c.loop-now.invariant.fit;
       stands = λ base rest x first before is last stands.
           stands_more g.V.Receive.takes g.V.Receive.pauses c.args.unit f table base w rest x first before is
-          (λ y u i j. finds_alike table y u i j) c.loop-now.now c.loop-now.receiver (g.K.Sink.taken c.loop-now.out) at
+          c.valid.ensures c.loop-now.now c.loop-now.receiver (g.K.Sink.taken c.loop-now.out) at
           c.loop-now.invariant.lies (omega (arith, inside, long)) (omega (arith, past.0, c.next-found.ensures.at))
           (omega (arith, past.1, c.next-found.ensures.at, long)) finds
           (⊎_elim (λ l. inr (last l))
@@ -109,7 +108,7 @@ loop-now-preserved g c =
       fit = c.next-found.ensures.fit ∙ c.loop-now.invariant.fit;
       stands = λ base rest x first before is last stands.
           stands_passed g.V.Receive.takes g.V.Receive.pauses c.args.unit f table base w rest x first before is
-          (λ y u i j. finds_alike table y u i j) c.loop-now.now c.loop-now.receiver (g.K.Sink.taken c.loop-now.out) at
+          c.valid.ensures c.loop-now.now c.loop-now.receiver (g.K.Sink.taken c.loop-now.out) at
           c.loop-now.invariant.lies (omega (arith, inside, long)) (omega (arith, past.0, c.next-found.ensures.at))
           (omega (arith, past.1, c.next-found.ensures.at, long)) finds
           (⊎_elim (λ l. inr (last l))
