@@ -1,7 +1,7 @@
 -- The reads of the files that words name, in order.
 use Rattle.std.proofs.Common.{◌≡◌, ◌≢◌, ◌<◌, ◌≤◌, ◌+◌, ◌⊎◌, ℕ, zero, suc, List, [], ◌∷◌, length, drop, get_or, slice_get}
 use Rattle.std.proofs.Common.{Option, None, Some, refl, sym, ap, ◌∙◌, subst, inl, inr, ⊎_elim, arith}
-use Rattle.std.specs.Prelude.{IfSome, OnSome, Result, Ok}
+use Rattle.std.specs.Prelude.{fold, IfSome, OnSome, Result, Ok}
 use Rattle.std.proofs.lemmas.Bool.{cases_lt}
 use Rattle.std.proofs.lemmas.Option.{slice_get_within}
 use Rattle.std.proofs.lemmas.List.{drop_more, drop_all}
@@ -15,10 +15,14 @@ use Rattle.rbbi_command.specs.declared.files.Source.{Source}
 use Rattle.rbbi_command.specs.declared.refusal.Refusal.{Refusal}
 use Rattle.rbbi_command.specs.declared.refusal.Refusal.TheVariants.{Usage, Unread, Fault, Memory}
 use Rattle.rbbi_command.specs.Files.{limit_of, length_stage, lengths_stage}
-use Rattle.rbbi_command.specs.Inputs.{Inputs, no_inputs, put, with_files, inputs_of, AreShort}
+use Rattle.rbbi_command.specs.Inputs.{Inputs, no_inputs, put, inputs_of, AreShort}
 use Rattle.rbbi_command.specs.inner.Reads.{IsReadOf, EndsRead, ReadsOnce}
 use Rattle.rbbi_command.specs.Reads.{MakesReads, MakesSomeReads, EndsReading, AreRead, AreReads, IsRefusedRead, StopsReading}
 use Rattle.rbbi_command.specs.Reads as made
+
+-- the inputs with the files of a list, which hold this
+abbrev pub with_files : (List ℕ → List ℕ) → Inputs → List Source → Inputs
+with_files held inputs sources = fold (λ so_far source. put source.role source.name (held source.name) so_far) inputs sources
 
 -- So many of the files were read, and what they hold: each is within its limit, and no other name's count changed.
 pub record AreReadBefore (held : List ℕ → List ℕ) (sources : List Source) (before now : List ℕ → ℕ) (i : ℕ) (inputs : Inputs) : Type 0 where

@@ -1,5 +1,5 @@
 -- The files of a request as they were read, each by what it is to the program.
-use Rattle.std.specs.Prelude.{◌≤◌, ℕ, List, [], ◌∷◌, ◌++◌, length}
+use Rattle.std.specs.Prelude.{◌≤◌, ℕ, List, [], ◌∷◌, ◌++◌, length, fold}
 use Rattle.std.specs.List.{AllByRecursion}
 use Rattle.rbbi_text.specs.Bytes.{most_bytes}
 use Rattle.rbbi_command.specs.declared.files.Role.{Role}
@@ -21,17 +21,16 @@ pub record Inputs : Type 0 where
 
 -- the inputs of the code
 abbrev pub inputs_in : code.Inputs → Inputs
-inputs_in inputs =
-    record {
-      properties = inputs.properties.items;
-      filter = inputs.filter;
-      rules = inputs.rules;
-      other_rules = inputs.other_rules;
-      table = inputs.table;
-      text = inputs.text;
-      script = inputs.script;
-      tests = inputs.tests;
-    }
+inputs_in inputs = record {
+  properties = inputs.properties.items;
+  filter = inputs.filter;
+  rules = inputs.rules;
+  other_rules = inputs.other_rules;
+  table = inputs.table;
+  text = inputs.text;
+  script = inputs.script;
+  tests = inputs.tests;
+}
 
 -- no file is read yet
 abbrev pub no_inputs : Inputs
@@ -50,14 +49,9 @@ put role.Text name bytes inputs = record inputs { text = record { name = name; b
 put role.Script name bytes inputs = record inputs { script = record { name = name; bytes = bytes } }
 put role.Tests name bytes inputs = record inputs { tests = record { name = name; bytes = bytes } }
 
--- the inputs with the files of a list, which hold this
-abbrev pub with_files : (List ℕ → List ℕ) → Inputs → List Source → Inputs
-with_files held inputs [] = inputs
-with_files held inputs (source ∷ sources) = with_files held (put source.role source.name (held source.name) inputs) sources
-
 -- what the files of a list are to the program, where they hold this
 abbrev pub inputs_of : (List ℕ → List ℕ) → List Source → Inputs
-inputs_of held sources = with_files held no_inputs sources
+inputs_of held sources = fold (λ inputs source. put source.role source.name (held source.name) inputs) no_inputs sources
 
 -- none has more bytes than are read at once
 pub record AreShort (inputs : Inputs) : Type 0 where

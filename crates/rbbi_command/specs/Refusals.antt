@@ -35,12 +35,11 @@ printed_name OtherRules = codes "rules2"
 printed_name Table = table_name
 printed_name (File name) = name
 
--- the status of a file's faults
+-- the status of a file's faults, one for both rule files
 abbrev pub status_of_subject : Subject → ℕ
-status_of_subject Rules = 3
-status_of_subject OtherRules = 3
 status_of_subject Table = 4
 status_of_subject (File name) = 5
+status_of_subject subject = 3
 
 -- a fault of this label of a file, by the name that is printed
 abbrev pub told_at : List ℕ → List ℕ → Place → List ℕ

@@ -1,6 +1,6 @@
 -- The options between the word of a command and its first operand.
 use Rattle.std.specs.Prelude.{◌≡◌, ◌≢◌, ℕ, ◌-◌, Bool, true, false, not, ◌&&◌, ◌||◌, ◌==◌, nat_le, if◌then◌else◌, List, [], ◌∷◌, ◌++◌, length, codes, count_by}
-use Rattle.std.specs.Prelude.{filter_map, fold, Option, Some, None, unwrap_or}
+use Rattle.std.specs.Prelude.{filter_map, fold, Option, Some, None, is_some, unwrap_or}
 use Rattle.std.specs.Option.{option_or}
 use Rattle.std.specs.List.{list_any, list_all, flat_map, AllByRecursion}
 use Rattle.std.specs.Char.{is_ascii_alphanumeric}
@@ -43,11 +43,6 @@ spelled ByTable = codes "--table" ∷ []
 spelled (CountIn unit) = codes "--units" ∷ unit_word unit ∷ []
 spelled (Suppress file) = codes "--suppress" ∷ file ∷ []
 spelled (Tailor file) = codes "--tailor" ∷ file ∷ []
-
--- whether the option names a property file
-abbrev pub is_property : Setting → Bool
-is_property (HandIn property) = true
-is_property setting = false
 
 -- the property file that an option names
 abbrev pub property_of : Setting → Option Property
@@ -112,19 +107,18 @@ pub record Options : Type 0 where
   pub filter : Option FilterKind
 
 abbrev pub options_of : List Setting → Options
-options_of settings =
-    record {
-      files = filter_map source_in settings;
-      properties = filter_map property_of settings;
-      ignored = list_any is_ignoring settings;
-      by_table = are_by_table settings;
-      unit = unit_of settings;
-      filter = filter_of settings;
-    }
+options_of settings = record {
+  files = filter_map source_in settings;
+  properties = filter_map property_of settings;
+  ignored = list_any is_ignoring settings;
+  by_table = are_by_table settings;
+  unit = unit_of settings;
+  filter = filter_of settings;
+}
 
 -- whether there are at most 16 property files, and `$dictionary` is ignored once at most
 abbrev pub are_few : List Setting → Bool
-are_few settings = nat_le (count_by is_property settings) 16 && nat_le (count_by is_ignoring settings) 1
+are_few settings = nat_le (count_by (λ setting. is_some (property_of setting)) settings) 16 && nat_le (count_by is_ignoring settings) 1
 
 -- Whether the options say what defines the boundaries: a table file, and then only options on how boundaries are reported may be there
 -- too; or rules.

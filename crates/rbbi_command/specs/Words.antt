@@ -23,17 +23,15 @@ name_of Conform = codes "conform"
 name_of Tally = codes "tally"
 name_of Demo = codes "demo"
 
--- which options a command takes
+-- which options a command takes: `check`, `compile` and `same` those on rule files
 abbrev pub taken_by : Command → Takes
-taken_by Check = RuleOptions
-taken_by Compile = RuleOptions
 taken_by Upgrade = NoOptions
-taken_by Same = RuleOptions
+taken_by Demo = NoOptions
 taken_by Breaks = RuleOptionsOrTableAndTelling
 taken_by Run = RuleOptionsOrTableAndTelling
 taken_by Conform = RuleOptionsOrTable
 taken_by Tally = RuleOptionsOrTable
-taken_by Demo = NoOptions
+taken_by command = RuleOptions
 
 -- what each operand of a command is, in order, where the first is a table file or isn't
 abbrev pub operands_of : Command → Bool → List Operand
@@ -49,15 +47,13 @@ operands_of Demo by_table = Count ∷ []
 
 -- the word is of the operand's form: any word names a file
 abbrev pub Fits : Operand → List ℕ → Type 0
-Fits (Read role) word = Unit {0}
-Fits Written word = Unit {0}
 Fits Count word = (count : ℕ) × IsCount word count
+Fits operand word = Unit {0}
 
 -- each word is of its operand's form
 abbrev pub AllFit : List Operand → List (List ℕ) → Type 0
-AllFit [] words = Unit {0}
-AllFit (operand ∷ operands) [] = Unit {0}
 AllFit (operand ∷ operands) (word ∷ words) = Fits operand word × AllFit operands words
+AllFit operands words = Unit {0}
 
 -- what the arguments ask for: a command, what its options mean, and its operands
 pub record Request : Type 0 where

@@ -6,15 +6,17 @@ use Rattle.rbbi_model.specs.Tables.{Table}
 use Rattle.rbbi_model.specs.Scripts as model
 use Rattle.rbbi_text.specs.Steps.{RisesUpTo}
 use Rattle.rbbi_command.specs.declared.words.command.Command.{Command}
-use Rattle.rbbi_command.specs.declared.words.command.Command.TheVariants.{Check, Compile, Upgrade, Same, Breaks, Run, Conform, Tally, Demo}
+use Rattle.rbbi_command.specs.declared.words.command.Command.TheVariants.{Breaks, Run, Tally}
 use Rattle.rbbi_command.specs.declared.files.Role.{Role}
 use Rattle.rbbi_command.specs.declared.files.Role.TheVariants as role
 use Rattle.rbbi_command.specs.declared.files.Source.{Source}
 use Rattle.rbbi_filter.specs.declared.filter.Filter.{Filter}
 use Rattle.rbbi_command.specs.Stages.{Stage, gives}
+use Rattle.rbbi_command.specs.Settings.{Options}
 use Rattle.rbbi_command.specs.Words.{Request, IsCommandLine}
 use Rattle.rbbi_command.specs.Files.{sources_of}
-use Rattle.rbbi_command.specs.Inputs.{Inputs, no_inputs, put, with_files, inputs_of}
+use Rattle.rbbi_command.specs.Inputs.{Inputs, no_inputs, put, inputs_of}
+use Rattle.rbbi_command.proofs.Reading.{with_files}
 use Rattle.rbbi_command.specs.Reads.{MakesSomeReads, AreRead}
 use Rattle.rbbi_tool.specs.Texts.{text_stage}
 use Rattle.rbbi_tool.specs.Scripts.{script_stage}
@@ -72,24 +74,19 @@ reads_for filtered text script cost_of bytes before between after by table x com
 }
 
 -- where nothing is read, nothing is over the bound
-command_reads_none : (command : Command) (request : Request) (inputs : Inputs) (bytes before after : ℕ) → RisesUpTo 0 before after
-    → CommandReads command request inputs bytes before after
-command_reads_none Check request inputs bytes before after none = tt
-command_reads_none Upgrade request inputs bytes before after none = tt
-command_reads_none Same request inputs bytes before after none = tt
-command_reads_none Compile request inputs bytes before after none = tt
-command_reads_none Breaks request inputs bytes before after none = inl (rises_further 0 bytes before after none (omega arith))
-command_reads_none Run request inputs bytes before after none = inl (rises_further 0 bytes before after none (omega arith))
-command_reads_none Tally request inputs bytes before after none = inl (rises_further 0 bytes before after none (omega arith))
-command_reads_none Conform request inputs bytes before after none = tt
-command_reads_none Demo request inputs bytes before after none = tt
+command_reads_none : (command : Command) (options : Options) (inputs : Inputs) (bytes before after : ℕ) → RisesUpTo 0 before after
+    → CommandReads command options inputs bytes before after
+command_reads_none Breaks options inputs bytes before after none = inl (rises_further 0 bytes before after none (omega arith))
+command_reads_none Run options inputs bytes before after none = inl (rises_further 0 bytes before after none (omega arith))
+command_reads_none Tally options inputs bytes before after none = inl (rises_further 0 bytes before after none (omega arith))
+command_reads_none command options inputs bytes before after none = tt
 
 pub reads_none : (contents : Option (List ℕ → List ℕ)) (request : Request) (steps : ℕ)
     → IfSome contents (λ held. ReadsByEnd 0 (RequestReads request held) steps steps)
 reads_none contents request steps =
     always_told contents (λ held. ReadsByEnd 0 (RequestReads request held) steps steps)
     (λ held end none.
-    command_reads_none request.command request (inputs_of held (sources_of request)) (named_bytes held request) steps end none)
+    command_reads_none request.command request.options (inputs_of held (sources_of request)) (named_bytes held request) steps end none)
 
 -- a file more counts its bytes, or in place of others
 put_counted : (role : Role) (name bytes : List ℕ) (inputs : Inputs) → given_bytes (put role name bytes inputs) ≤ given_bytes inputs + counted role bytes
@@ -140,23 +137,18 @@ reads_further_for filtered text script cost_of few many before after less (inr r
     })
 
 -- a command reads no more than may be
-reads_further : (command : Command) (request : Request) (inputs : Inputs) (few many before after : ℕ) → few ≤ many
-    → CommandReads command request inputs few before after → CommandReads command request inputs many before after
-reads_further Check request inputs few many before after less reads = tt
-reads_further Upgrade request inputs few many before after less reads = tt
-reads_further Same request inputs few many before after less reads = tt
-reads_further Compile request inputs few many before after less reads = tt
-reads_further Conform request inputs few many before after less reads = tt
-reads_further Demo request inputs few many before after less reads = tt
-reads_further Breaks request inputs few many before after less reads =
-    reads_further_for (filtered_stage request.options inputs) (text_stage inputs.text) (gives []) (λ filter table x commands. list_cost filter table x) few many
+reads_further : (command : Command) (options : Options) (inputs : Inputs) (few many before after : ℕ) → few ≤ many
+    → CommandReads command options inputs few before after → CommandReads command options inputs many before after
+reads_further Breaks options inputs few many before after less reads =
+    reads_further_for (filtered_stage options inputs) (text_stage inputs.text) (gives []) (λ filter table x commands. list_cost filter table x) few many
     before after less reads
-reads_further Run request inputs few many before after less reads =
-    reads_further_for (filtered_stage request.options inputs) (text_stage inputs.text) (script_stage inputs.script)
-    (λ filter. replies_cost filter request.options.unit) few many before after less reads
-reads_further Tally request inputs few many before after less reads =
-    reads_further_for (behind_filter request.options inputs None) (text_stage inputs.text) (script_stage inputs.script) (λ filter. tally_cost) few many before
+reads_further Run options inputs few many before after less reads =
+    reads_further_for (filtered_stage options inputs) (text_stage inputs.text) (script_stage inputs.script)
+    (λ filter. replies_cost filter options.unit) few many before after less reads
+reads_further Tally options inputs few many before after less reads =
+    reads_further_for (behind_filter options inputs None) (text_stage inputs.text) (script_stage inputs.script) (λ filter. tally_cost) few many before
     after less reads
+reads_further command options inputs few many before after less reads = tt
 
 -- no file is read
 pub reads_nothing : (words : List (List ℕ)) (contents : Option (List ℕ → List ℕ)) (reads : List ℕ → ℕ) (steps : ℕ)
@@ -171,15 +163,15 @@ reads_nothing words contents reads steps = record {
 -- what is read of the files that were read in order
 pub reads_told : (words : List (List ℕ)) (contents : Option (List ℕ → List ℕ)) (here request : Request) → IsCommandLine words request
     → IsCommandLine words here → (sources : List Source) (inputs : Inputs) (rest before now : ℕ) → sources ≡ sources_of here
-    → IfSome contents (AreRead sources inputs) → ReadsByEnd rest (CommandReads here.command here inputs (given_bytes inputs)) before now
+    → IfSome contents (AreRead sources inputs) → ReadsByEnd rest (CommandReads here.command here.options inputs (given_bytes inputs)) before now
     → IfSome contents (λ held. ReadsByEnd rest (RequestReads request held) before now)
 reads_told words contents here request asks asks' sources inputs rest before now is read reads =
     all_told contents (AreRead sources inputs) (λ held. ReadsByEnd rest (RequestReads request held) before now) read
     (λ held (are, short) end more.
     let named = inputs_of held (sources_of here) in
     subst (λ r. RequestReads r held before end) (same_request words here request asks' asks)
-    (reads_further here.command here named (given_bytes named) (named_bytes held here) before end (given_named held here)
-    (subst (λ i. CommandReads here.command here i (given_bytes i) before end) (are ∙ ap (inputs_of held) is) (reads end more))))
+    (reads_further here.command here.options named (given_bytes named) (named_bytes held here) before end (given_named held here)
+    (subst (λ i. CommandReads here.command here.options i (given_bytes i) before end) (are ∙ ap (inputs_of held) is) (reads end more))))
 
 -- what is read by the run's end
 pub reads_at_end : (contents : Option (List ℕ → List ℕ)) (request : Request) (rest before now end : ℕ)

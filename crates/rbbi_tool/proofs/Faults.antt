@@ -21,7 +21,7 @@ use Rattle.rbbi_tool.specs.Properties.{properties_stage, property_files}
 use Rattle.rbbi_tool.specs.Rules.{rules_stage}
 use Rattle.rbbi_text.specs.declared.error.LinesErr.{LinesErr}
 use Rattle.rbbi_text.specs.declared.error.LinesErr.TheVariants as lines
-use Rattle.rbbi_tool.specs.Scripts.{lines_fault}
+use Rattle.rbbi_tool.specs.Scripts.{lines_fault, script_stage}
 use Rattle.rbbi_props.specs.Rows.{File}
 use Rattle.rbbi_tool.specs.Basis.{compiled_bytes_stage, compiled_with, compiled_stage, basis_by, basis_stage}
 use Rattle.rbbi_tool.specs.Command.Same.{told_of_second, as_second, second_stage}
@@ -109,10 +109,16 @@ lines_fault_is name (lines.NotUtf8 at) r some is = is_fault _ _ _ r is
 lines_fault_is name (lines.BadLine line) r some is = is_fault _ _ _ r is
 lines_fault_is name lines.Memory r some is = absurd (some refl)
 
+script_fault : (script : Input) → Faults (script_stage script)
+script_fault script r (inl is) = lines_fault_is _ is.error r is.not_memory is.is
+script_fault script r (inr (written, read, never)) = absurd never
+
 -- filter files
 filter_fault : (kind : FilterKind) (file : Input) → Faults (filter_stage kind file)
-filter_fault Abbreviations file r is = lines_fault_is _ is.error r is.not_memory is.is
-filter_fault Pairs file r is = lines_fault_is _ is.error r is.not_memory is.is
+filter_fault Abbreviations file r (inl is) = lines_fault_is _ is.error r is.not_memory is.is
+filter_fault Abbreviations file r (inr (list, read, never)) = absurd never
+filter_fault Pairs file r (inl is) = lines_fault_is _ is.error r is.not_memory is.is
+filter_fault Pairs file r (inr (pairs, read, never)) = absurd never
 
 -- what boundaries come by, also behind a filter
 filtered_fault : (kind : Option FilterKind) (options : Options) (inputs : Inputs) → Faults (filtered_by kind options inputs)
@@ -139,11 +145,11 @@ command_fault Breaks request inputs r (inr (by, passed, inl is)) = text_fault in
 command_fault Breaks request inputs r (inr (by, passed, inr (x, taken, never))) = absurd never
 command_fault Run request inputs r (inl is) = filtered_fault request.options.filter request.options inputs r is
 command_fault Run request inputs r (inr (by, passed, inl is)) = text_fault inputs.text r is
-command_fault Run request inputs r (inr (by, passed, inr (x, taken, inl is))) = lines_fault_is _ is.error r is.not_memory is.is
+command_fault Run request inputs r (inr (by, passed, inr (x, taken, inl is))) = script_fault inputs.script r is
 command_fault Run request inputs r (inr (by, passed, inr (x, taken, inr (commands, read, never)))) = absurd never
 command_fault Tally request inputs r (inl is) = basis_fault request.options inputs r is
 command_fault Tally request inputs r (inr (basis, passed, inl is)) = text_fault inputs.text r is
-command_fault Tally request inputs r (inr (basis, passed, inr (x, taken, inl is))) = lines_fault_is _ is.error r is.not_memory is.is
+command_fault Tally request inputs r (inr (basis, passed, inr (x, taken, inl is))) = script_fault inputs.script r is
 command_fault Tally request inputs r (inr (basis, passed, inr (x, taken, inr (commands, read, never)))) = absurd never
 command_fault Conform request inputs r (inl is) = basis_fault request.options inputs r is
 command_fault Conform request inputs r (inr (basis, passed, inl is)) = lines_fault_is _ is.error r is.not_memory is.is

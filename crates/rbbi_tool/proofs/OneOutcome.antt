@@ -5,7 +5,7 @@ use Rattle.std.proofs.Common.{arith}
 use Rattle.std.specs.Prelude.{codes, Result, Err, Ok}
 use Rattle.rbbi_model.specs.Rules.{Rule}
 use Rattle.rbbi_model.specs.Boundaries.{Boundary, AreBoundaries}
-use Rattle.rbbi_model.specs.Lines.{boundary_lines, all_reply_lines}
+use Rattle.rbbi_model.specs.Lines.{boundary_lines, all_reply_lines, demo_line}
 use Rattle.rbbi_model.specs.Answers.{Reply}
 use Rattle.rbbi_model.specs.declared.unit.Unit.{Unit as TextUnit}
 use Rattle.rbbi_model.specs.Units.{measured}
@@ -15,7 +15,7 @@ use Rattle.rbbi_model.specs.Tables.{Table}
 use Rattle.rbbi_model.specs.Marks.{Marks, AreMarks}
 use Rattle.rbbi_props.specs.Rows as rows
 use Rattle.rbbi_compile.specs.declared.error.CompileErr.{CompileErr}
-use Rattle.rbbi_compile.specs.Rules.{MeansRules, HasRuleFault}
+use Rattle.rbbi_compile.specs.Rules.{text_of, MeansRules, HasRuleFault}
 use Rattle.rbbi_compile.specs.Tables.{HasTableRules, HasFault}
 use Rattle.rbbi_compile.specs.Laws as compiling
 use Rattle.rbbi_dfa.specs.HaveCanonical.{CompiledTablesHaveCanonical}
@@ -33,6 +33,7 @@ use Rattle.rbbi_filter.specs.AbbreviationFiles.{ReadsAbbreviations}
 use Rattle.rbbi_filter.specs.PairFiles.{ReadsPairs}
 use Rattle.rbbi_filter.specs.Laws.{HaveOneAnswer}
 use Rattle.rbbi_conform.specs.Tests.{Test}
+use Rattle.rbbi_conform.specs.Files.{ReadsTests}
 use Rattle.rbbi_conform.specs.Laws.{HaveOneTestList, HasOneVerdict}
 use Rattle.rbbi_demo.specs.declared.summary.Summary.{Summary}
 use Rattle.rbbi_demo.specs.Summaries.{IsSummary}
@@ -54,7 +55,7 @@ use Rattle.rbbi_tool.specs.inner.Stages.{IsDeterministic}
 use Rattle.rbbi_command.specs.Refusals.{Outcome, refused, printed}
 use Rattle.rbbi_command.specs.Words.{Request}
 use Rattle.rbbi_command.specs.Files.{length_stage, lengths_stage, sources_of}
-use Rattle.rbbi_tool.specs.Texts.{TellsNotUtf8, checked_utf8_stage, utf8_stage, count_stage, text_stage}
+use Rattle.rbbi_tool.specs.Texts.{utf8_stage, count_stage, text_stage}
 use Rattle.rbbi_tool.specs.Properties.{rows_stage, property_stage, properties_stage, property_files}
 use Rattle.rbbi_tool.specs.Rules.{fault_in, rule_text_stage, told_stage, rule_bytes_stage, rules_stage}
 use Rattle.rbbi_tool.specs.Basis.{compiled_bytes_stage, compiled_with, compiled_stage, table_place, table_stage}
@@ -63,19 +64,19 @@ use Rattle.rbbi_command.specs.Settings.{Options}
 use Rattle.rbbi_command.specs.Inputs.{Inputs, inputs_of}
 use Rattle.rbbi_tool.specs.Command.Check.{counts_line}
 use Rattle.rbbi_tool.specs.Command.Compile.{table_outcome, TellsTable}
-use Rattle.rbbi_tool.specs.Command.Same.{IsComparison, comparison_stage, told_of_second, as_second, second_stage}
+use Rattle.rbbi_tool.specs.Command.Same.{IsComparison, told_of_second, as_second, second_stage}
 use Rattle.rbbi_tool.specs.Command.Breaks.{boundaries_stage}
 use Rattle.rbbi_tool.specs.Command.Run.{replies_stage}
 use Rattle.rbbi_tool.specs.Filters.{FilteredBasis, filter_stage, behind_filter, filtered_by, filtered_stage, AreReportedBy, AreRepliesBasedOn}
 use Rattle.rbbi_tool.specs.Command.Conform.{told_verdicts, verdicts_stage}
-use Rattle.rbbi_tool.specs.Command.Tally.{counts_stage}
-use Rattle.rbbi_tool.specs.Command.Demo.{demo_rules, summary_line, TellsSummary}
+use Rattle.rbbi_tool.specs.Command.Tally.{TellTally}
+use Rattle.rbbi_tool.specs.Command.Demo.{demo_rules, TellsSummary}
 use Rattle.rbbi_tool.specs.Scripts.{script_stage, tests_stage}
 use Rattle.rbbi_tool.specs.Program.{nth, words_stage, command_stage, request_stage, run_stage, IsOutcome}
 use Rattle.rbbi_tool.specs.Causes.{TellOneDifference}
 use Rattle.rbbi_command.proofs.Forms.{same_request}
-use Rattle.rbbi_tool.proofs.StageLemmas.{IsSettled, settled, passing_determined, determined_both, settled_both}
-use Rattle.rbbi_tool.proofs.OneReading.{script_determined, tests_determined, same_verdicts, filter_determined}
+use Rattle.rbbi_tool.proofs.StageLemmas.{IsSettled, settled, passing_determined, gives_determined, determined_both, settled_both}
+use Rattle.rbbi_tool.proofs.OneReading.{lines_determined, made_determined, script_determined, same_verdicts}
 use Rattle.rbbi_tool.proofs.Tallied.{tally_determined}
 use Rattle.rbbi_model.proofs.Replies.{same_from}
 use Rattle.rbbi_tool.proofs.SameMarks.{never_both, same_canonical}
@@ -123,19 +124,16 @@ length_determined held source = record {
 }
 
 lengths_determined : (held : List ℕ → List ℕ) (sources : List Source) → IsDeterministic (Unit {0}) (lengths_stage held sources)
-lengths_determined held [] = record { value = λ a b is is'. refl; refusal = λ r s is is'. absurd is; apart = λ a r is is'. is' }
+lengths_determined held [] = passing_determined (λ _. Unit {0}) (λ a b is is'. refl)
 lengths_determined held (source ∷ sources) =
     determined_both (length_stage held source) (λ _. lengths_stage held sources) (length_determined held source) (λ _. lengths_determined held sources)
 
 -- the text of a file is determined
-not_utf8_once : (subject : Subject) (bytes : List ℕ) (r s : Refusal) → TellsNotUtf8 subject bytes r → TellsNotUtf8 subject bytes s → r ≡ s
-not_utf8_once subject bytes r s (at, wrong, is) (at', wrong', is') = is ∙ ap (λ n. Fault subject (codes "NotUtf8") (Byte n))
-    (wrong.at_is ∙ sym wrong'.at_is) ∙ sym is'
-
-utf8_determined : (subject : Subject) (bytes : List ℕ) → IsDeterministic (List ℕ) (utf8_stage subject bytes)
-utf8_determined subject bytes = record {
+utf8_determined : {A : Type 0} (subject : Subject) (bytes : List ℕ) (value : A) → IsDeterministic A (utf8_stage subject bytes value)
+utf8_determined subject bytes value = record {
   value = λ x y is is'. is.1 ∙ sym is'.1;
-  refusal = not_utf8_once subject bytes;
+  refusal = λ r s (at, wrong, is) (at', wrong', is').
+      is ∙ ap (λ n. Fault subject (codes "NotUtf8") (Byte n)) (wrong.at_is ∙ sym wrong'.at_is) ∙ sym is';
   apart = λ x r is (at, wrong, told). wrong.not_utf8 is.0;
 }
 
@@ -144,13 +142,6 @@ count_determined subject x = record {
   value = λ y z is is'. is.0 ∙ sym is'.0;
   refusal = λ r s is is'. is.1 ∙ sym is'.1;
   apart = λ y r is is'. let few = is.1 in let many = is'.0 in omega arith;
-}
-
-checked_determined : (subject : Subject) (bytes : List ℕ) → IsDeterministic (Unit {0}) (checked_utf8_stage subject bytes)
-checked_determined subject bytes = record {
-  value = λ x y is is'. refl;
-  refusal = not_utf8_once subject bytes;
-  apart = λ x r is (at, wrong, told). wrong.not_utf8 is;
 }
 
 rows_determined : (name bytes : List ℕ) → IsDeterministic (Unit {0}) (rows_stage name bytes)
@@ -163,17 +154,12 @@ rows_determined name bytes = record {
 }
 
 properties_determined : (properties : List Property) (handed : List (List ℕ)) → IsDeterministic (Unit {0}) (properties_stage properties handed)
-properties_determined [] handed = record { value = λ a b is is'. refl; refusal = λ r s is is'. absurd is; apart = λ a r is is'. is' }
-properties_determined (p ∷ properties) [] = record { value = λ a b is is'. refl; refusal = λ r s is is'. absurd is; apart = λ a r is is'. is' }
 properties_determined (p ∷ properties) (b ∷ handed) =
     determined_both (property_stage p.file b) (λ _. properties_stage properties handed)
-    (determined_both (checked_utf8_stage (subject.File p.file) b) (λ _. rows_stage p.file b) (checked_determined (subject.File p.file) b)
+    (determined_both (utf8_stage (subject.File p.file) b (tt {0})) (λ _. rows_stage p.file b) (utf8_determined (subject.File p.file) b (tt {0}))
     (λ _. rows_determined p.file b))
     (λ _. properties_determined properties handed)
-
--- a stage that gives one value is determined
-gives_determined : {A : Type 0} (a : A) → IsDeterministic A (gives a)
-gives_determined a = passing_determined (λ b. b ≡ a) (λ b c is is'. is ∙ sym is')
+properties_determined properties handed = passing_determined (λ _. Unit {0}) (λ a b is is'. refl)
 
 -- a stage whose faults are told of the second rule file is determined where it is
 second_determined : {A : Type 0} (stage : Stage A) → IsDeterministic A stage → IsDeterministic A (as_second stage)
@@ -185,7 +171,7 @@ second_determined stage is = record {
 
 text_determined : (text : Input) → IsDeterministic (List ℕ) (text_stage text)
 text_determined text =
-    determined_both (utf8_stage _ text.bytes) (count_stage _) (utf8_determined _ text.bytes) (count_determined _)
+    determined_both (utf8_stage _ text.bytes _) (count_stage _) (utf8_determined _ text.bytes _) (count_determined _)
 
 -- what a rule file comes to is determined, where its text has one list of rules or one fault
 rule_file_determined : (HasRules : List ℕ → List Rule → Type 0) (HasFault : List ℕ → CompileErr → Type 0) (bytes : List ℕ)
@@ -195,11 +181,7 @@ rule_file_determined : (HasRules : List ℕ → List Rule → Type 0) (HasFault 
     → IsDeterministic (List Rule) (followed_by (rule_text_stage bytes) (told_stage HasRules HasFault))
 rule_file_determined HasRules HasFault bytes one_list one_fault never =
     determined_both (rule_text_stage bytes) (told_stage HasRules HasFault)
-    (record {
-      value = λ x y is is'. is.1 ∙ sym is'.1;
-      refusal = not_utf8_once subject.Rules bytes;
-      apart = λ x r is (at, wrong, told). wrong.not_utf8 is.0;
-    })
+    (utf8_determined subject.Rules bytes (text_of bytes))
     (λ x. record {
       value = one_list x;
       refusal = λ r s (e, has, is) (f, has', is'). is ∙ ap (fault_in x) (one_fault x e f has has') ∙ sym is';
@@ -267,8 +249,8 @@ module _ (laws : Laws) where
 
   -- what boundaries come by behind a filter is determined
   filter_file_determined : (kind : FilterKind) (file : Input) → IsDeterministic Filter (filter_stage kind file)
-  filter_file_determined Abbreviations file = filter_determined ReadsAbbreviations laws.abbreviations Suppressing file
-  filter_file_determined Pairs file = filter_determined ReadsPairs laws.pairs Turning file
+  filter_file_determined Abbreviations file = made_determined ReadsAbbreviations laws.abbreviations file Suppressing
+  filter_file_determined Pairs file = made_determined ReadsPairs laws.pairs file Turning
 
   behind_determined : (options : Options) (inputs : Inputs) (filter : Option Filter) → IsDeterministic FilteredBasis (behind_filter options inputs filter)
   behind_determined options inputs filter =
@@ -329,7 +311,7 @@ module _ (laws : Laws) where
   summary_determined : (count : ℕ) (rules : List Rule) → IsDeterministic Outcome (passing (TellsSummary count rules))
   summary_determined count rules =
       passing_determined (TellsSummary count rules) (λ o p is is'.
-      is.is ∙ ap (λ summary. printed (summary_line summary)) (laws.summaries rules count is.summary is'.summary is.are is'.are) ∙ sym is'.is)
+      is.is ∙ ap (λ (s : Summary). printed (demo_line s.chars s.edits s.boundaries s.sum)) (laws.summaries rules count is.summary is'.summary is.are is'.are) ∙ sym is'.is)
 
   -- one table of rules is told
   same_table : (rules : List Rule) (name : List ℕ) (one other : Outcome) → TellsTable rules name one → TellsTable rules name other → one ≡ other
@@ -357,7 +339,7 @@ module _ (laws : Laws) where
         is_other = is';
       })
 
-  comparison_settled : (rules others : List Rule) → IsSettled Outcome AreAlike (comparison_stage rules others)
+  comparison_settled : (rules others : List Rule) → IsSettled Outcome AreAlike (passing (IsComparison rules others))
   comparison_settled rules others =
       record { value = compared_alike rules others; refusal = λ r s is is'. absurd is; apart = λ o r is is'. is' }
 
@@ -388,13 +370,16 @@ module _ (laws : Laws) where
   command_settled Tally request inputs =
       let text = text_stage inputs.text in
       let script = script_stage inputs.script in
-      by_basis request.options inputs (λ basis. followed_by text (λ x. followed_by script (counts_stage basis x)))
-      (λ basis. determined_both text (λ x. followed_by script (counts_stage basis x)) (text_determined inputs.text)
-      (λ x. determined_both script (counts_stage basis x) (script_determined laws.scripts inputs.script) (tally_determined basis (same_boundaries basis) x)))
+      by_basis request.options inputs (λ basis. followed_by text (λ x. followed_by script (λ commands. passing (TellTally basis x commands))))
+      (λ basis.
+      determined_both text (λ x. followed_by script (λ commands. passing (TellTally basis x commands))) (text_determined inputs.text)
+      (λ x.
+      determined_both script (λ commands. passing (TellTally basis x commands)) (script_determined laws.scripts inputs.script)
+      (tally_determined basis (same_boundaries basis) x)))
   command_settled Conform request inputs =
       let tests = tests_stage inputs.tests in
       by_basis request.options inputs (λ basis. followed_by tests (verdicts_stage basis))
-      (λ basis. determined_both tests (verdicts_stage basis) (tests_determined laws.tests inputs.tests) (verdicts_determined basis))
+      (λ basis. determined_both tests (verdicts_stage basis) (lines_determined ReadsTests laws.tests inputs.tests) (verdicts_determined basis))
   command_settled Breaks request inputs =
       let unit = request.options.unit in
       by_filter request.options inputs (λ by. boundaries_stage by unit) (λ by. boundaries_determined by unit)
@@ -424,7 +409,7 @@ module _ (laws : Laws) where
       let second = as_second (compiled_bytes_stage files ignored inputs.other_rules) in
       settled_both (compiled_stage request.options inputs) (second_stage files ignored inputs) AreAlike (compiled_determined request.options inputs)
       (λ rules mean.
-      settled_both second (comparison_stage rules) AreAlike
+      settled_both second (λ others. passing (IsComparison rules others)) AreAlike
       (second_determined (compiled_bytes_stage files ignored inputs.other_rules) (compiled_bytes_determined files ignored inputs.other_rules))
       (λ others mean'. comparison_settled rules others))
 

@@ -1,9 +1,9 @@
 -- Stages in a row: how they pass and refuse, and that they are determined where each of them is.
-use Rattle.std.proofs.Common.{◌≡◌, ◌⊎◌, inl, inr, ⊎_elim, subst}
+use Rattle.std.proofs.Common.{◌≡◌, ◌⊎◌, inl, inr, ⊎_elim, sym, ◌∙◌, subst}
 use Rattle.std.specs.Prelude.{Result, Ok, Err}
 use Rattle.rbbi_command.specs.declared.refusal.Refusal.{Refusal}
 use Rattle.rbbi_command.specs.declared.refusal.Refusal.TheVariants.{Memory}
-use Rattle.rbbi_command.specs.Stages.{Stage, followed_by, passing}
+use Rattle.rbbi_command.specs.Stages.{Stage, followed_by, passing, gives}
 use Rattle.rbbi_tool.specs.inner.Stages.{Meets, Serves, IsDeterministic}
 
 -- the stage doesn't both pass and refuse, it refuses in one way alone, and values that it passes with are so related
@@ -19,6 +19,10 @@ settled R stage same is = record { value = λ a b p q. same a b (is.value a b p 
 -- a stage that never refuses is determined if it passes with one value alone
 pub passing_determined : {A : Type 0} (P : A → Type 0) → ((a b : A) → P a → P b → a ≡ b) → IsDeterministic A (passing P)
 passing_determined P one = record { value = one; refusal = λ r s is is'. absurd is; apart = λ a r is is'. is' }
+
+-- a stage that gives one value is determined
+pub gives_determined : {A : Type 0} (a : A) → IsDeterministic A (gives a)
+gives_determined a = passing_determined (λ b. b ≡ a) (λ b c is is'. is ∙ sym is')
 
 module _ {A B : Type 0} (first : Stage A) (next : A → Stage B) where
   -- the first stage refuses

@@ -10,11 +10,12 @@ use Rattle.rbbi_model.specs.Answers.{Outside, TooLong, Edited}
 use Rattle.rbbi_model.specs.Scripts.{Command, Ask, Replace, ShowText, Edit, Refused, Accepted, splice, edit, InsertsText}
 use Rattle.rbbi_model.specs.Lines.{reply_lines}
 use Rattle.rbbi_model.proofs.Texts.{text_take, text_drop, text_append}
-use Rattle.rbbi_tally.specs.Counts.{segment_count}
+use Rattle.rbbi_tally.specs.Counts.{segment_count, AreCounts}
+use Rattle.rbbi_command.specs.Stages.{passing}
 use Rattle.rbbi_command.specs.Refusals.{Outcome, printed}
 use Rattle.rbbi_tool.specs.Basis.{Basis, AreBoundariesBy}
-use Rattle.rbbi_tool.specs.Command.Tally.{count_lines, TellCounts, TellText, TellEdit, edited_text, text_after, TellCommand, TellCommands}
-use Rattle.rbbi_tool.specs.Command.Tally.{TellTally, counts_stage}
+use Rattle.rbbi_tool.specs.Command.Tally.{count_lines, TellText, TellEdit, edited_text, text_after, TellCommand, TellCommands}
+use Rattle.rbbi_tool.specs.Command.Tally.{TellTally}
 use Rattle.rbbi_tool.proofs.StageLemmas.{passing_determined}
 use Rattle.rbbi_tool.specs.inner.Stages.{IsDeterministic}
 use Rattle.rbbi_tool.specs.inner.Tallying.{counts_of, lines_of, edit_lines, commands_lines, tally_lines}
@@ -41,7 +42,9 @@ module _ (basis : Basis) (table : Table) (gives : GivesThem table basis) where
       record {
         boundaries = boundaries;
         are = boundaries_given basis table x gives text;
-        tell = record { counts = counts_of boundaries; are = counts_are boundaries; is = refl };
+        counts = counts_of boundaries;
+        counted = counts_are boundaries;
+        is = refl;
       }
 
   edit_told : (x : List ℕ) (e : Edit) → IsText (edited_text x e) → TellEdit basis e (edit_lines table e)
@@ -67,7 +70,7 @@ module _ (basis : Basis) (table : Table) (gives : GivesThem table basis) where
 
   -- what a table gives is told
   pub tally_told : (x : List ℕ) (commands : List Command) → IsText x → AllByRecursion InsertsText commands →
-      (counts_stage basis x commands).passes (printed (tally_lines table x commands))
+      TellTally basis x commands (printed (tally_lines table x commands))
   tally_told x commands text inserts = record {
     counts = lines_of (table_boundaries table x);
     told = commands_lines table x commands;
@@ -81,10 +84,11 @@ module _ (basis : Basis)
   same_text : (x these those : List ℕ) → TellText basis x these → TellText basis x those → these ≡ those
   same_text x these those is is' =
       let boundaries = same x is.boundaries is'.boundaries is.are is'.are in
-      let tell = subst (λ b. TellCounts b these) boundaries is.tell in
-      tell.is
-      ∙ ap (count_lines (segment_count is'.boundaries)) (same_counts is'.boundaries tell.counts is'.tell.counts tell.are is'.tell.are)
-      ∙ sym is'.tell.is
+      let counted = subst (λ b. AreCounts b is.counts) boundaries is.counted in
+      is.is
+      ∙ ap (λ b. count_lines (segment_count b) is.counts) boundaries
+      ∙ ap (count_lines (segment_count is'.boundaries)) (same_counts is'.boundaries is.counts is'.counts counted is'.counted)
+      ∙ sym is'.is
 
   same_edit : (e : Edit) (these those : List ℕ) → TellEdit basis e these → TellEdit basis e those → these ≡ those
   same_edit (Refused reply) these those is is' = is ∙ sym is'
@@ -107,7 +111,7 @@ module _ (basis : Basis)
       ∙ sym is'
 
   -- what is told is determined
-  pub tally_determined : (x : List ℕ) (commands : List Command) → IsDeterministic Outcome (counts_stage basis x commands)
+  pub tally_determined : (x : List ℕ) (commands : List Command) → IsDeterministic Outcome (passing (TellTally basis x commands))
   tally_determined x commands =
       passing_determined (TellTally basis x commands) (λ o p is is'.
       is.is

@@ -1,6 +1,6 @@
 -- Tests judged one after another.
 use Rattle.std.proofs.Common.{◌≡◌, ◌<◌, ◌≤◌, ◌+◌, ℕ, zero, suc, List, [], ◌∷◌, ◌++◌, length, drop, get_or, cond, refl, sym, ap, ◌∙◌, subst, append_assoc, arith}
-use Rattle.std.specs.Prelude.{not, if◌then◌else◌, Some, slice_get}
+use Rattle.std.specs.Prelude.{not, count_by, if◌then◌else◌, Some, slice_get}
 use Rattle.std.proofs.lemmas.List.Sums.{sum_by-cons}
 use Rattle.std.proofs.lemmas.List.{drop_more, drop_all, append-nil}
 use Rattle.rbbi_model.specs.Words.{IsText}
@@ -11,7 +11,7 @@ use Rattle.rbbi_conform.specs.declared.verdict.Verdict.{Verdict}
 use Rattle.rbbi_conform.specs.declared.verdict.Verdict.TheVariants.{Same, Differs}
 use Rattle.rbbi_conform.specs.Verdicts.{IsVerdict}
 use Rattle.rbbi_tool.specs.Basis.{Basis}
-use Rattle.rbbi_tool.specs.Command.Conform.{AreVerdictsBy, is_passed, test_lines, differing_lines, passed_count, failed_count}
+use Rattle.rbbi_tool.specs.Command.Conform.{AreVerdictsBy, is_passed, test_lines, differing_lines, failed_count}
 use Rattle.rbbi_tool.specs.inner.Judging.{AreVerdictsIn, TellsVerdicts}
 use Rattle.rbbi_tool.proofs.Bases.{GivesThem, boundaries_given}
 
@@ -20,7 +20,7 @@ pub record AreJudgedTo (table : Table) (tests : List Test) (lines : List ℕ) (p
   pub inside : i ≤ length tests
   pub counted : passed + failed ≡ i
   pub rest : (verdicts : List Verdict) → AreVerdictsIn table (drop i tests) verdicts
-      → TellsVerdicts table tests (lines ++ differing_lines (drop i tests) verdicts) (passed + passed_count verdicts) (failed + failed_count verdicts)
+      → TellsVerdicts table tests (lines ++ differing_lines (drop i tests) verdicts) (passed + count_by is_passed verdicts) (failed + failed_count verdicts)
 
 pub judged_none : (table : Table) (tests : List Test) (lines : List ℕ) → lines ≡ [] → AreJudgedTo table tests lines 0 0 0
 judged_none table tests lines none = record {
@@ -37,7 +37,7 @@ judged_none table tests lines none = record {
 
 -- the counts of a verdict and more
 one_passed : (verdict : Verdict) (verdicts : List Verdict)
-    → passed_count (verdict ∷ verdicts) ≡ (if is_passed verdict then 1 else 0) + passed_count verdicts
+    → count_by is_passed (verdict ∷ verdicts) ≡ (if is_passed verdict then 1 else 0) + count_by is_passed verdicts
 one_passed verdict verdicts = sum_by-cons (λ v. cond (is_passed v) 1 0) verdict verdicts
 
 one_failed : (verdict : Verdict) (verdicts : List Verdict)

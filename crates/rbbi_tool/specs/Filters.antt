@@ -1,5 +1,5 @@
 -- What stands between a text and its boundaries, from the bytes of a filter file; and the boundaries and the replies that are reported.
-use Rattle.std.specs.Prelude.{◌≡◌, ℕ, List, Option, Some, None, Ok, Err}
+use Rattle.std.specs.Prelude.{◌≡◌, ℕ, List, Option, Some, None}
 use Rattle.rbbi_model.specs.declared.unit.Unit.{Unit as TextUnit}
 use Rattle.rbbi_model.specs.Boundaries.{Boundary, AreBoundaries}
 use Rattle.rbbi_model.specs.Tables.{Table}
@@ -11,7 +11,6 @@ use Rattle.rbbi_session.specs.UnitWalks.{unit_kind}
 use Rattle.rbbi_script.specs.Performing.{replies_in}
 use Rattle.rbbi_filter.specs.AbbreviationFiles.{ReadsAbbreviations}
 use Rattle.rbbi_filter.specs.PairFiles.{ReadsPairs}
-use Rattle.rbbi_filter.specs.declared.pair.Pair.{Pair}
 use Rattle.rbbi_filter.specs.declared.filter.Filter.{Filter}
 use Rattle.rbbi_filter.specs.declared.filter.Filter.TheVariants.{Suppressing, Turning}
 use Rattle.rbbi_filter.specs.Filters.{AreBoundariesThrough}
@@ -22,20 +21,14 @@ use Rattle.rbbi_command.specs.declared.inputs.Input.{Input}
 use Rattle.rbbi_command.specs.Settings.{Options}
 use Rattle.rbbi_command.specs.Inputs.{Inputs}
 use Rattle.rbbi_command.specs.Stages.{Stage, followed_by, gives}
-use Rattle.rbbi_tool.specs.Scripts.{TellsLinesFault}
+use Rattle.rbbi_tool.specs.Scripts.{lines_stage}
 use Rattle.rbbi_tool.specs.Properties.{properties_stage}
 use Rattle.rbbi_tool.specs.Basis.{Basis, ByRules, ByTable, basis_stage}
 
 -- the filter of a file of abbreviations, or of pairs
 abbrev pub filter_stage : FilterKind → Input → Stage Filter
-filter_stage Abbreviations file = record {
-  passes = λ filter. (list : List (List ℕ)) × ReadsAbbreviations file.bytes (Ok list) × (filter ≡ Suppressing list);
-  refuses = TellsLinesFault (λ error. ReadsAbbreviations file.bytes (Err error)) file.name;
-}
-filter_stage Pairs file = record {
-  passes = λ filter. (pairs : List Pair) × ReadsPairs file.bytes (Ok pairs) × (filter ≡ Turning pairs);
-  refuses = TellsLinesFault (λ error. ReadsPairs file.bytes (Err error)) file.name;
-}
+filter_stage Abbreviations file = followed_by (lines_stage (ReadsAbbreviations file.bytes) file.name) (λ list. gives (Suppressing list))
+filter_stage Pairs file = followed_by (lines_stage (ReadsPairs file.bytes) file.name) (λ pairs. gives (Turning pairs))
 
 -- what boundaries come by, and through which filter they are reported, if there is one
 pub record FilteredBasis : Type 0 where

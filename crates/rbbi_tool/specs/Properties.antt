@@ -8,8 +8,8 @@ use Rattle.rbbi_command.specs.declared.words.setting.Property.{Property}
 use Rattle.rbbi_command.specs.declared.refusal.Subject.TheVariants.{File}
 use Rattle.rbbi_command.specs.declared.refusal.Place.TheVariants.{Row}
 use Rattle.rbbi_command.specs.declared.refusal.Refusal.TheVariants.{Fault}
-use Rattle.rbbi_command.specs.Stages.{Stage, followed_by}
-use Rattle.rbbi_tool.specs.Texts.{checked_utf8_stage}
+use Rattle.rbbi_command.specs.Stages.{Stage, followed_by, passing}
+use Rattle.rbbi_tool.specs.Texts.{utf8_stage}
 
 -- the bytes of a property file of this name are lines that are skipped and rows, or the first bad row is reported
 abbrev pub rows_stage : List ℕ → List ℕ → Stage (Unit {0})
@@ -20,17 +20,15 @@ rows_stage name bytes = record {
 
 -- the bytes of a property file: UTF-8, and then its rows
 abbrev pub property_stage : List ℕ → List ℕ → Stage (Unit {0})
-property_stage name bytes = followed_by (checked_utf8_stage (File name) bytes) (λ _. rows_stage name bytes)
+property_stage name bytes = followed_by (utf8_stage (File name) bytes (tt {0})) (λ _. rows_stage name bytes)
 
 -- the bytes of the property files, each in order
 abbrev pub properties_stage : List Property → List (List ℕ) → Stage (Unit {0})
-properties_stage [] handed = record { passes = λ _. Unit {0}; refuses = λ _. ⊥ }
-properties_stage (property ∷ properties) [] = record { passes = λ _. Unit {0}; refuses = λ _. ⊥ }
 properties_stage (property ∷ properties) (bytes ∷ handed) =
     followed_by (property_stage property.file bytes) (λ _. properties_stage properties handed)
+properties_stage properties handed = passing (λ _. Unit {0})
 
 -- the property files under the names of their properties
 abbrev pub property_files : List Property → List (List ℕ) → List rows.File
-property_files [] handed = []
-property_files (property ∷ properties) [] = []
 property_files (property ∷ properties) (bytes ∷ handed) = named_file property.name bytes ∷ property_files properties handed
+property_files properties handed = []

@@ -1,5 +1,5 @@
 -- From the bytes of a rule file to its rules, and how its first fault is reported.
-use Rattle.std.specs.Prelude.{◌≡◌, ℕ, Bool, List, IsUtf8}
+use Rattle.std.specs.Prelude.{◌≡◌, ℕ, Bool, List}
 use Rattle.rbbi_model.specs.Rules.{Rule}
 use Rattle.rbbi_props.specs.Rows.{File}
 use Rattle.rbbi_compile.specs.declared.error.CompileErr.{CompileErr}
@@ -10,7 +10,7 @@ use Rattle.rbbi_command.specs.declared.refusal.Refusal.{Refusal}
 use Rattle.rbbi_command.specs.declared.refusal.Refusal.TheVariants.{Fault}
 use Rattle.rbbi_command.specs.Refusals.{place_in}
 use Rattle.rbbi_command.specs.Stages.{Stage, followed_by}
-use Rattle.rbbi_tool.specs.Texts.{TellsNotUtf8}
+use Rattle.rbbi_tool.specs.Texts.{utf8_stage}
 use Rattle.rbbi_command.specs.Settings.{Options}
 use Rattle.rbbi_command.specs.Inputs.{Inputs}
 use Rattle.rbbi_tool.specs.Properties.{properties_stage, property_files}
@@ -25,10 +25,7 @@ TellsFault HasFault x refusal = (error : CompileErr) × HasFault error × (refus
 
 -- the text of a rule file
 abbrev pub rule_text_stage : List ℕ → Stage (List ℕ)
-rule_text_stage bytes = record {
-  passes = λ x. IsUtf8 bytes × (x ≡ text_of bytes);
-  refuses = TellsNotUtf8 Rules bytes;
-}
+rule_text_stage bytes = utf8_stage Rules bytes (text_of bytes)
 
 -- the rules that a text has, or its fault
 abbrev pub told_stage : (List ℕ → List Rule → Type 0) → (List ℕ → CompileErr → Type 0) → List ℕ → Stage (List Rule)

@@ -1,7 +1,6 @@
 -- From the bytes of a script to its commands, and from those of a test file to its tests.
-use Rattle.std.specs.Prelude.{◌≡◌, ◌≢◌, ℕ, List, map, Ok, Err, codes}
+use Rattle.std.specs.Prelude.{◌≡◌, ◌≢◌, ℕ, List, map, Result, Ok, Err, codes}
 use Rattle.rbbi_model.specs.Scripts.{Command}
-use Rattle.rbbi_script.specs.declared.command.Command as code
 use Rattle.rbbi_text.specs.declared.error.LinesErr.{LinesErr}
 use Rattle.rbbi_text.specs.declared.error.LinesErr.TheVariants as lines
 use Rattle.rbbi_script.specs.Meaning.{meaning}
@@ -13,7 +12,7 @@ use Rattle.rbbi_command.specs.declared.refusal.Subject.TheVariants.{File}
 use Rattle.rbbi_command.specs.declared.refusal.Place.TheVariants.{Byte, Row}
 use Rattle.rbbi_command.specs.declared.refusal.Refusal.{Refusal}
 use Rattle.rbbi_command.specs.declared.refusal.Refusal.TheVariants.{Fault, Memory}
-use Rattle.rbbi_command.specs.Stages.{Stage}
+use Rattle.rbbi_command.specs.Stages.{Stage, followed_by, gives}
 
 -- the refusal for a fault of a file of lines of this name
 abbrev pub lines_fault : List ℕ → LinesErr → Refusal
@@ -28,22 +27,14 @@ pub record TellsLinesFault (IsRefused : LinesErr → Type 0) (name : List ℕ) (
   pub not_memory : error ≢ lines.Memory
   pub is : refusal ≡ lines_fault name error
 
--- the bytes are a script, which means these commands
-pub record MeanCommands (bytes : List ℕ) (commands : List Command) : Type 0 where
-  pub written : List code.Command
-  pub read : ReadsScript bytes (Ok written)
-  pub mean : commands ≡ map meaning written
+-- what the lines of a file of this name are read as, or its first fault
+abbrev pub lines_stage : {A : Type 0} → (Result A LinesErr → Type 0) → List ℕ → Stage A
+lines_stage Reads name = record { passes = λ a. Reads (Ok a); refuses = TellsLinesFault (λ error. Reads (Err error)) name }
 
--- the commands of a script
+-- the commands that a script means
 abbrev pub script_stage : Input → Stage (List Command)
-script_stage script = record {
-  passes = MeanCommands script.bytes;
-  refuses = TellsLinesFault (λ error. ReadsScript script.bytes (Err error)) script.name;
-}
+script_stage script = followed_by (lines_stage (ReadsScript script.bytes) script.name) (λ written. gives (map meaning written))
 
 -- the tests of a test file
 abbrev pub tests_stage : Input → Stage (List Test)
-tests_stage tests = record {
-  passes = λ list. ReadsTests tests.bytes (Ok list);
-  refuses = TellsLinesFault (λ error. ReadsTests tests.bytes (Err error)) tests.name;
-}
+tests_stage tests = lines_stage (ReadsTests tests.bytes) tests.name

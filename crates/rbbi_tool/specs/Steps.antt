@@ -54,10 +54,9 @@ cost_where_accepted (model.Accepted text length) cost = cost
 
 -- the cost of keeping the counts under a command, and under commands
 abbrev pub counting_cost : Table → List ℕ → model.Command → ℕ
-counting_cost table x (model.Ask question) = 0
 counting_cost table x (model.Replace at removed inserted) =
     cost_where_accepted (model.edit x at removed inserted) (tally_edit_cost table x at removed inserted)
-counting_cost table x model.ShowText = 0
+counting_cost table x command = 0
 
 abbrev pub countings_cost : Table → List ℕ → List model.Command → ℕ
 countings_cost table x [] = 0
@@ -76,31 +75,22 @@ abbrev pub replies_cost : Option Filter → TextUnit → Table → List ℕ → 
 replies_cost None unit table x commands = script_cost table unit x commands
 replies_cost (Some filter) unit table x commands = costs_in (filter_kind filter table) (model.opened x) None commands
 
--- what `breaks`, `run` and `tally` read: at most so many bytes, or also what it costs to answer, where they come to that
-abbrev pub BreaksReads : Options → Inputs → ℕ → ℕ → ℕ → Type 0
-BreaksReads options inputs bytes before after =
+-- What a command reads, given its files: at most so many bytes, or also what it costs to answer, where it comes to that. Of commands other
+-- than `breaks`, `run` and `tally` nothing is said.
+abbrev pub CommandReads : Command → Options → Inputs → ℕ → ℕ → ℕ → Type 0
+CommandReads Breaks options inputs bytes before after =
     RisesUpTo bytes before after
     ⊎ ReadsFor (filtered_stage options inputs) (text_stage inputs.text) (gives []) (λ filter table x commands. list_cost filter table x) bytes before after
-
-abbrev pub RunReads : Options → Inputs → ℕ → ℕ → ℕ → Type 0
-RunReads options inputs bytes before after =
+CommandReads Run options inputs bytes before after =
     RisesUpTo bytes before after
     ⊎ ReadsFor (filtered_stage options inputs) (text_stage inputs.text) (script_stage inputs.script) (λ filter. replies_cost filter options.unit) bytes
     before after
-
-abbrev pub TallyReads : Options → Inputs → ℕ → ℕ → ℕ → Type 0
-TallyReads options inputs bytes before after =
+CommandReads Tally options inputs bytes before after =
     RisesUpTo bytes before after
     ⊎ ReadsFor (behind_filter options inputs None) (text_stage inputs.text) (script_stage inputs.script) (λ filter. tally_cost) bytes before after
-
--- What a command reads, given its files. Of the other commands nothing is said.
-abbrev pub CommandReads : Command → Request → Inputs → ℕ → ℕ → ℕ → Type 0
-CommandReads Breaks request inputs bytes before after = BreaksReads request.options inputs bytes before after
-CommandReads Run request inputs bytes before after = RunReads request.options inputs bytes before after
-CommandReads Tally request inputs bytes before after = TallyReads request.options inputs bytes before after
-CommandReads command request inputs bytes before after = Unit {0}
+CommandReads command options inputs bytes before after = Unit {0}
 
 -- what a request reads over files that hold this
 abbrev pub RequestReads : Request → (List ℕ → List ℕ) → ℕ → ℕ → Type 0
 RequestReads request held before after =
-    CommandReads request.command request (inputs_of held (sources_of request)) (named_bytes held request) before after
+    CommandReads request.command request.options (inputs_of held (sources_of request)) (named_bytes held request) before after

@@ -15,16 +15,9 @@ use Rattle.rbbi_command.specs.Stages.{Stage, followed_by}
 abbrev pub TellsNotUtf8 : Subject → List ℕ → Refusal → Type 0
 TellsNotUtf8 subject bytes refusal = (at : ℕ) × IsNotUtf8At bytes at × (refusal ≡ Fault subject (codes "NotUtf8") (Byte at))
 
--- the bytes are UTF-8, or aren't
-abbrev pub checked_utf8_stage : Subject → List ℕ → Stage (Unit {0})
-checked_utf8_stage subject bytes = record { passes = λ _. IsUtf8 bytes; refuses = TellsNotUtf8 subject bytes }
-
--- the characters that the bytes spell in UTF-8
-abbrev pub utf8_stage : Subject → List ℕ → Stage (List ℕ)
-utf8_stage subject bytes = record {
-  passes = λ x. IsUtf8 bytes × (x ≡ chars bytes);
-  refuses = TellsNotUtf8 subject bytes;
-}
+-- the bytes are UTF-8, and come to this value; or they aren't
+abbrev pub utf8_stage : {A : Type 0} → Subject → List ℕ → A → Stage A
+utf8_stage subject bytes value = record { passes = λ a. IsUtf8 bytes × (a ≡ value); refuses = TellsNotUtf8 subject bytes }
 
 -- the characters are no more than a text may have
 abbrev pub count_stage : Subject → List ℕ → Stage (List ℕ)
@@ -35,4 +28,4 @@ count_stage subject x = record {
 
 -- the text of a text file
 abbrev pub text_stage : Input → Stage (List ℕ)
-text_stage text = followed_by (utf8_stage (File text.name) text.bytes) (count_stage (File text.name))
+text_stage text = followed_by (utf8_stage (File text.name) text.bytes (chars text.bytes)) (count_stage (File text.name))

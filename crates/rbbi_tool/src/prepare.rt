@@ -41,7 +41,7 @@ pub(crate) fn prepare<L: Ledger>(
         (command_stage request.now.command (asked_by request.now) (inputs_in inputs.now))
         (answer_of result) }
     ensures steps { ReadsByEnd (rest_after result)
-        (CommandReads request.now.command (asked_by request.now) (inputs_in inputs.now)
+        (CommandReads request.now.command (asked_by request.now).options (inputs_in inputs.now)
         (given_bytes (inputs_in inputs.now))) steps.old steps.new }
 {
     let options = &request.options;

@@ -1,5 +1,5 @@
 //! What the options of a command mean.
-ghost use Rattle.std.specs.Prelude.{◌≡◌, IfOk, count_by, filter_map};
+ghost use Rattle.std.specs.Prelude.{◌≡◌, IfOk, count_by, filter_map, is_some};
 ghost use Rattle.std.specs.List.{list_any};
 ghost use Rattle.rbbi_command.specs.Settings as spec;
 ghost use Rattle.rbbi_command.specs.Requests.{options_in};
@@ -47,7 +47,7 @@ fn ignores_dictionary(settings: &[Setting]) -> bool
 }
 
 fn count_properties(settings: &[Setting]) -> usize
-    ensures { result ≡ count_by spec.is_property settings.now }
+    ensures { result ≡ count_by (λ setting. is_some (spec.property_of setting)) settings.now }
 {
     settings
         .iter()

@@ -20,9 +20,8 @@ IsVerdictBy basis test verdict = (boundaries : List Boundary) × AreBoundariesBy
 -- the verdicts on the tests, in order
 abbrev pub AreVerdictsBy : Basis → List Test → List Verdict → Type 0
 AreVerdictsBy basis [] [] = Unit {0}
-AreVerdictsBy basis [] (verdict ∷ verdicts) = ⊥
-AreVerdictsBy basis (test ∷ tests) [] = ⊥
 AreVerdictsBy basis (test ∷ tests) (verdict ∷ verdicts) = IsVerdictBy basis test verdict × AreVerdictsBy basis tests verdicts
+AreVerdictsBy basis tests verdicts = ⊥
 
 -- whether a test passes
 abbrev pub is_passed : Verdict → Bool
@@ -36,14 +35,10 @@ test_lines test (Differs place) = differs_line test.line place
 
 -- the lines of the tests that differ
 abbrev pub differing_lines : List Test → List Verdict → List ℕ
-differing_lines [] verdicts = []
-differing_lines (test ∷ tests) [] = []
 differing_lines (test ∷ tests) (verdict ∷ verdicts) = test_lines test verdict ++ differing_lines tests verdicts
+differing_lines tests verdicts = []
 
--- how many tests pass, and how many differ
-abbrev pub passed_count : List Verdict → ℕ
-passed_count verdicts = count_by is_passed verdicts
-
+-- how many tests differ
 abbrev pub failed_count : List Verdict → ℕ
 failed_count verdicts = count_by (λ verdict. not (is_passed verdict)) verdicts
 
@@ -52,7 +47,7 @@ abbrev pub told_verdicts : List Test → List Verdict → Outcome
 told_verdicts tests verdicts =
     record {
       status = if failed_count verdicts == 0 then 0 else 1;
-      bytes = differing_lines tests verdicts ++ verdicts_line (passed_count verdicts) (failed_count verdicts);
+      bytes = differing_lines tests verdicts ++ verdicts_line (count_by is_passed verdicts) (failed_count verdicts);
       file = None;
     }
 

@@ -14,15 +14,11 @@ use Rattle.rbbi_tool.specs.Basis.{compiled_bytes_stage}
 unfoldable pub demo_rules : List ℕ
 demo_rules = codes "$W = [a-c]; $X = [\\u0308]; $D = [12];\n$W ($W | $X)* {200}; $D+ ([.] $D+)* {100};\n' '+; [.] / ' ' {5}; .;\n"
 
--- what is reported of a summary
-abbrev pub summary_line : Summary → List ℕ
-summary_line summary = demo_line summary.chars summary.edits summary.boundaries summary.sum
-
--- the summary of the number by the rules
+-- the summary of the number by the rules is reported
 pub record TellsSummary (count : ℕ) (rules : List Rule) (outcome : Outcome) : Type 0 where
   pub summary : Summary
   pub are : IsSummary (AreBoundaries rules) count summary
-  pub is : outcome ≡ printed (summary_line summary)
+  pub is : outcome ≡ printed (demo_line summary.chars summary.edits summary.boundaries summary.sum)
 
 -- the demonstration of the number that the word writes, by the built-in rules
 abbrev pub demo_stage : List ℕ → Stage Outcome

@@ -50,30 +50,15 @@ code_point_digits c =
     else (if nat_lt c 1048576 then hexadecimal_digit (c / 65536 % 16) ∷ last_digits c
     else hexadecimal_digit (c / 1048576 % 16) ∷ hexadecimal_digit (c / 65536 % 16) ∷ last_digits c)
 
--- a space, and the code point
-abbrev pub told_character : ℕ → List ℕ
-told_character c = 32 ∷ code_point_digits c
-
--- the line of a text after which marks differ
-abbrev pub difference_line : List ℕ → List ℕ
-difference_line w = line (codes "differ" ++ flat_map told_character w)
-
--- the text is reported, with status 1
+-- the text is reported, a space and a code point for each character, with status 1
 abbrev pub told_difference : List ℕ → Outcome
-told_difference w = record { status = 1; bytes = difference_line w; file = None }
-
--- that the marks are the same is reported
-abbrev pub told_same : Outcome
-told_same = printed (line (codes "same"))
+told_difference w = record { status = 1; bytes = line (codes "differ" ++ flat_map (λ c. 32 ∷ code_point_digits c) w); file = None }
 
 -- the rules have the same marks after every text, and this is reported; or one text is, after which they differ
 abbrev pub IsComparison : List Rule → List Rule → Outcome → Type 0
 IsComparison rules others outcome =
-    (HaveSameMarks rules others × (outcome ≡ told_same)) ⊎ ((w : List ℕ) × DifferAfter rules others w × (outcome ≡ told_difference w))
-
--- whether the rules have the same marks
-abbrev pub comparison_stage : List Rule → List Rule → Stage Outcome
-comparison_stage rules others = passing (IsComparison rules others)
+    (HaveSameMarks rules others × (outcome ≡ printed (line (codes "same")))) ⊎
+    ((w : List ℕ) × DifferAfter rules others w × (outcome ≡ told_difference w))
 
 -- a fault of the rule file, told of the second rule file
 abbrev pub told_of_second : Refusal → Refusal
@@ -88,7 +73,7 @@ as_second {A} stage =
 -- the second rule file, and then whether it has the same marks as these rules
 abbrev pub second_stage : List File → Bool → Inputs → List Rule → Stage Outcome
 second_stage files ignored inputs rules =
-    followed_by (as_second (compiled_bytes_stage files ignored inputs.other_rules)) (comparison_stage rules)
+    followed_by (as_second (compiled_bytes_stage files ignored inputs.other_rules)) (λ others. passing (IsComparison rules others))
 
 -- whether two rule files have the same marks, with the property files that are passed for both: the first, and then the second
 abbrev pub same_stage : Options → Inputs → Stage Outcome

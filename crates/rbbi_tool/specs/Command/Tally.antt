@@ -4,7 +4,7 @@ use Rattle.std.specs.List.{flat_map}
 use Rattle.std.specs.Fmt.{decimal}
 use Rattle.rbbi_model.specs.Boundaries.{Boundary}
 use Rattle.rbbi_model.specs.Answers.{Edited}
-use Rattle.rbbi_model.specs.Scripts.{Command, Ask, Replace, ShowText, Edit, Refused, Accepted, edit}
+use Rattle.rbbi_model.specs.Scripts.{Command, Replace, Edit, Refused, Accepted, edit}
 use Rattle.rbbi_model.specs.Lines.{line, reply_lines}
 use Rattle.rbbi_tally.specs.declared.counts.ValueCount.{ValueCount}
 use Rattle.rbbi_tally.specs.Counts.{segment_count, AreCounts}
@@ -24,17 +24,13 @@ count_line pair = line (decimal pair.value ++ 32 ∷ decimal pair.count)
 abbrev pub count_lines : ℕ → List ValueCount → List ℕ
 count_lines segments counts = line (codes "segments " ++ decimal segments) ++ flat_map count_line counts
 
--- these lines tell the counts of the segments between the boundaries
-pub record TellCounts (boundaries : List Boundary) (lines : List ℕ) : Type 0 where
-  pub counts : List ValueCount
-  pub are : AreCounts boundaries counts
-  pub is : lines ≡ count_lines (segment_count boundaries) counts
-
--- these lines tell the counts of the text's segments
+-- these lines tell the counts of the text's segments, which are between its boundaries
 pub record TellText (basis : Basis) (x lines : List ℕ) : Type 0 where
   pub boundaries : List Boundary
   pub are : AreBoundariesBy basis x boundaries
-  pub tell : TellCounts boundaries lines
+  pub counts : List ValueCount
+  pub counted : AreCounts boundaries counts
+  pub is : lines ≡ count_lines (segment_count boundaries) counts
 
 -- what is reported of an edit: its reply, and after an accepted one the counts of the new text
 abbrev pub TellEdit : Basis → Edit → List ℕ → Type 0
@@ -48,15 +44,13 @@ edited_text x (Accepted text length) = text
 
 -- the text after a command
 abbrev pub text_after : List ℕ → Command → List ℕ
-text_after x (Ask question) = x
 text_after x (Replace at removed inserted) = edited_text x (edit x at removed inserted)
-text_after x ShowText = x
+text_after x command = x
 
 -- what is reported of a command: of one that isn't an edit, nothing
 abbrev pub TellCommand : Basis → List ℕ → Command → List ℕ → Type 0
-TellCommand basis x (Ask question) lines = lines ≡ []
 TellCommand basis x (Replace at removed inserted) lines = TellEdit basis (edit x at removed inserted) lines
-TellCommand basis x ShowText lines = lines ≡ []
+TellCommand basis x command lines = lines ≡ []
 
 -- what is reported of the commands, each over the text of its moment
 abbrev pub TellCommands : Basis → List ℕ → List Command → List ℕ → Type 0
@@ -72,11 +66,8 @@ pub record TellTally (basis : Basis) (x : List ℕ) (commands : List Command) (o
   pub then : TellCommands basis x commands told
   pub is : outcome ≡ printed (counts ++ told)
 
-abbrev pub counts_stage : Basis → List ℕ → List Command → Stage Outcome
-counts_stage basis x commands = passing (TellTally basis x commands)
-
 -- the counts of a text file and of what the edits of a script make of it, by a rule file or a table file
 abbrev pub tally_stage : Options → Inputs → Stage Outcome
 tally_stage options inputs =
     followed_by (basis_stage options inputs)
-    (λ basis. followed_by (text_stage inputs.text) (λ x. followed_by (script_stage inputs.script) (counts_stage basis x)))
+    (λ basis. followed_by (text_stage inputs.text) (λ x. followed_by (script_stage inputs.script) (λ commands. passing (TellTally basis x commands))))

@@ -1,25 +1,24 @@
 -- The verdicts on tests by a table, and what is reported of them.
-use Rattle.std.specs.Prelude.{◌≡◌, ℕ, List, [], ◌∷◌}
+use Rattle.std.specs.Prelude.{◌≡◌, ℕ, List, [], ◌∷◌, count_by}
 use Rattle.rbbi_model.specs.Words.{IsText}
 use Rattle.rbbi_model.specs.Tables.{Table}
 use Rattle.rbbi_model.specs.Searches.{table_boundaries}
 use Rattle.rbbi_conform.specs.Tests.{Test}
 use Rattle.rbbi_conform.specs.declared.verdict.Verdict.{Verdict}
 use Rattle.rbbi_conform.specs.Verdicts.{IsVerdict}
-use Rattle.rbbi_tool.specs.Command.Conform.{differing_lines, passed_count, failed_count}
+use Rattle.rbbi_tool.specs.Command.Conform.{is_passed, differing_lines, failed_count}
 
 -- the verdicts on the tests by the table, in order
 abbrev pub AreVerdictsIn : Table → List Test → List Verdict → Type 0
 AreVerdictsIn table [] [] = Unit {0}
-AreVerdictsIn table [] (verdict ∷ verdicts) = ⊥
-AreVerdictsIn table (test ∷ tests) [] = ⊥
 AreVerdictsIn table (test ∷ tests) (verdict ∷ verdicts) =
     IsText test.text × IsVerdict (table_boundaries table test.text) test verdict × AreVerdictsIn table tests verdicts
+AreVerdictsIn table tests verdicts = ⊥
 
 -- the lines of the tests that differ, and how many pass and differ, by the verdicts of the table
 pub record TellsVerdicts (table : Table) (tests : List Test) (lines : List ℕ) (passed failed : ℕ) : Type 0 where
   pub verdicts : List Verdict
   pub are : AreVerdictsIn table tests verdicts
   pub lines_are : lines ≡ differing_lines tests verdicts
-  pub passed_is : passed ≡ passed_count verdicts
+  pub passed_is : passed ≡ count_by is_passed verdicts
   pub failed_is : failed ≡ failed_count verdicts

@@ -1,5 +1,6 @@
 //! The command `demo`.
 ghost use Rattle.std.specs.Prelude.{◌≡◌, ℕ, IfOk};
+ghost use Rattle.rbbi_model.specs.Lines.{demo_line};
 ghost use Rattle.rbbi_demo.specs.declared.summary.Summary.{Summary};
 ghost use Rattle.rbbi_command.specs.Counts.{IsCount};
 ghost use Rattle.rbbi_tool.specs.inner.Stages.{Meets};
@@ -24,7 +25,8 @@ $W ($W | $X)* {200}; $D+ ([.] $D+)* {100};
 
 /// The line of a summary.
 fn summary_line(alloc: Global, summary: &Summary) -> Result<Vec<u8>, AllocError>
-    ensures { IfOk result (λ line. line.items ≡ spec.summary_line summary.now) }
+    ensures { IfOk result (λ line. line.items ≡ demo_line summary.now.chars
+        summary.now.edits summary.now.boundaries summary.now.sum) }
 {
     let Summary {
         chars,

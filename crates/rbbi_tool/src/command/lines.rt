@@ -1,12 +1,13 @@
 //! The commands `breaks`, `run` and `tally`, whose lines are made while they are written.
 ghost use Rattle.rbbi_tool.specs.inner.Stages.{Meets};
 ghost use Rattle.rbbi_tool.specs.inner.Prepared.{answer_of, rest_after, ReadsByEnd};
+ghost use Rattle.rbbi_command.specs.declared.words.command.Command.TheVariants as command;
 ghost use Rattle.rbbi_command.specs.Requests.{options_in};
 ghost use Rattle.rbbi_command.specs.Inputs.{inputs_in, AreShort};
 ghost use Rattle.rbbi_tool.specs.Command.Breaks.{breaks_stage};
 ghost use Rattle.rbbi_tool.specs.Command.Run.{play_stage};
 ghost use Rattle.rbbi_tool.specs.Command.Tally.{tally_stage};
-ghost use Rattle.rbbi_tool.specs.Steps.{BreaksReads, RunReads, TallyReads};
+ghost use Rattle.rbbi_tool.specs.Steps.{CommandReads};
 ghost use Rattle.rbbi_tool.specs.inner.Steps.{given_bytes};
 
 use crate::filters::{FilteredTable, filtered_from};
@@ -31,7 +32,7 @@ pub(crate) fn breaks<L: Ledger>(
     ensures exact { Meets (λ output. output)
         (breaks_stage (options_in options.now) (inputs_in inputs.now)) (answer_of result) }
     ensures steps { ReadsByEnd (rest_after result)
-        (BreaksReads (options_in options.now) (inputs_in inputs.now)
+        (CommandReads command.Breaks (options_in options.now) (inputs_in inputs.now)
         (given_bytes (inputs_in inputs.now))) steps.old steps.new }
 {
     let filtered = filtered_from(alloc, options, inputs, steps)?;
@@ -54,7 +55,7 @@ pub(crate) fn run<L: Ledger>(
     ensures exact { Meets (λ output. output)
         (play_stage (options_in options.now) (inputs_in inputs.now)) (answer_of result) }
     ensures steps { ReadsByEnd (rest_after result)
-        (RunReads (options_in options.now) (inputs_in inputs.now)
+        (CommandReads command.Run (options_in options.now) (inputs_in inputs.now)
         (given_bytes (inputs_in inputs.now))) steps.old steps.new }
 {
     let filtered = filtered_from(alloc, options, inputs, steps)?;
@@ -79,7 +80,7 @@ pub(crate) fn tally<L: Ledger>(
     ensures exact { Meets (λ output. output)
         (tally_stage (options_in options.now) (inputs_in inputs.now)) (answer_of result) }
     ensures steps { ReadsByEnd (rest_after result)
-        (TallyReads (options_in options.now) (inputs_in inputs.now)
+        (CommandReads command.Tally (options_in options.now) (inputs_in inputs.now)
         (given_bytes (inputs_in inputs.now))) steps.old steps.new }
 {
     let table = table_from(alloc, options, inputs, steps)?;

@@ -1,5 +1,5 @@
 //! The command `same`.
-ghost use Rattle.std.specs.Prelude.{◌≡◌, ◌%◌, ◌++◌, List, IfOk, OnOk};
+ghost use Rattle.std.specs.Prelude.{◌≡◌, ◌%◌, ◌++◌, ◌∷◌, List, IfOk, OnOk};
 ghost use Rattle.rbbi_model.specs.Rules.{Rule};
 ghost use Rattle.rbbi_model.specs.Compiled.{IsCompiled};
 ghost use Rattle.rbbi_command.specs.Requests.{options_in};
@@ -29,7 +29,7 @@ fn last_digit(number: u32) -> u8
 
 /// Adds a space and the code point of a character to a line.
 fn add_character(line: &mut Vec<u8>, character: char) -> Result<(), AllocError>
-    ensures { OnOk result (line.new.items ≡ line.old.items ++ spec.told_character character) }
+    ensures { OnOk result (line.new.items ≡ line.old.items ++ 32 ∷ spec.code_point_digits character) }
 {
     let code = character as u32;
     let first = last_digit(code);
@@ -49,7 +49,7 @@ fn add_character(line: &mut Vec<u8>, character: char) -> Result<(), AllocError>
 
 /// The line of a text after which marks differ.
 fn difference_line(alloc: Global, word: &Word) -> Result<Vec<u8>, AllocError>
-    ensures { IfOk result (λ line. line.items ≡ spec.difference_line word.now) }
+    ensures { IfOk result (λ line. line.items ≡ (spec.told_difference word.now).bytes) }
 {
     let mut line = Vec::from_slice(alloc, b"differ")?;
     for character in word.as_str().chars() {

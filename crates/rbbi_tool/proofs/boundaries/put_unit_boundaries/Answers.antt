@@ -1,4 +1,4 @@
-use Rattle.std.proofs.Common.{◌≡◌, ℕ, ◌+◌, ◌<◌, List, ◌++◌, length, refl, sym, ap, ◌∙◌, subst, arith, rules}
+use Rattle.std.proofs.Common.{◌≡◌, ℕ, ◌+◌, ◌<◌, List, ◌++◌, length, sym, ap, ◌∙◌, subst, arith, rules}
 use Rattle.std.proofs.lemmas.Result.{err_from_is_err_and}
 use Rattle.rbbi_model.specs.Boundaries.{start}
 use Rattle.rbbi_model.specs.Lines.{boundary_line}
@@ -61,7 +61,7 @@ pub loop-at-init : goal.loop-at-init
 loop-at-init g c = record {
   listed = listed_start (line_in c.args.unit (g.T.Chars.characters c.args.text.now)) (lines_in c.args.unit (g.T.Chars.characters c.args.text.now)) (measured_each c.args.unit (g.T.Chars.characters c.args.text.now))
       c.args.table.now (g.T.Chars.characters c.args.text.now) _ c.say_bound.new.reply.items (c.in_ok-say_bound.ensures ∙ ap (λ l. l ++ boundary_line start) c.new-made.ensures.items);
-  offset_is = refl;
+  offset_is = c.new-offset.ensures;
   faults = search rules;
   fit = c.in_ok-marks.ensures;
   read = searched_none c.args.table.now (g.T.Chars.characters c.args.text.now) 0 c.args.steps.now;

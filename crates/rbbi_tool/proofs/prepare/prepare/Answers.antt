@@ -46,17 +46,17 @@ returns-in-Upgrade-clause-exact g c =
 pub returns-in-Breaks-clause-steps : goal.returns-in-Breaks-clause-steps
 returns-in-Breaks-clause-steps g c =
     let inputs = inputs_in c.args.inputs.now in
-    subst (λ k. ReadsByEnd (rest_after c.breaks.result) (CommandReads k (asked_by c.args.request.now) inputs (given_bytes inputs))
+    subst (λ k. ReadsByEnd (rest_after c.breaks.result) (CommandReads k (asked_by c.args.request.now).options inputs (given_bytes inputs))
     c.args.steps.now c.breaks.new.steps) (sym c.in-Breaks.is) c.breaks.ensures.steps
 
 pub returns-in-Run-clause-steps : goal.returns-in-Run-clause-steps
 returns-in-Run-clause-steps g c =
     let inputs = inputs_in c.args.inputs.now in
-    subst (λ k. ReadsByEnd (rest_after c.run.result) (CommandReads k (asked_by c.args.request.now) inputs (given_bytes inputs))
+    subst (λ k. ReadsByEnd (rest_after c.run.result) (CommandReads k (asked_by c.args.request.now).options inputs (given_bytes inputs))
     c.args.steps.now c.run.new.steps) (sym c.in-Run.is) c.run.ensures.steps
 
 pub returns-in-Tally-clause-steps : goal.returns-in-Tally-clause-steps
 returns-in-Tally-clause-steps g c =
     let inputs = inputs_in c.args.inputs.now in
-    subst (λ k. ReadsByEnd (rest_after c.tally.result) (CommandReads k (asked_by c.args.request.now) inputs (given_bytes inputs))
+    subst (λ k. ReadsByEnd (rest_after c.tally.result) (CommandReads k (asked_by c.args.request.now).options inputs (given_bytes inputs))
     c.args.steps.now c.tally.new.steps) (sym c.in-Tally.is) c.tally.ensures.steps

@@ -1,8 +1,9 @@
 use Rattle.std.proofs.Common.{refl, inl, subst}
 use Rattle.std.proofs.lemmas.Result.{err_from_is_err_and}
 use Rattle.rbbi_command.specs.Inputs.{inputs_in}
+use Rattle.rbbi_command.specs.Stages.{passing}
 use Rattle.rbbi_tool.specs.Basis.{compiled_bytes_stage}
-use Rattle.rbbi_tool.specs.Command.Same.{as_second, comparison_stage}
+use Rattle.rbbi_tool.specs.Command.Same.{as_second, IsComparison}
 use Rattle.rbbi_tool.proofs.RuleFiles.{second_refuses}
 use Rattle.rbbi_tool.proofs.SameMarks.{rules_compared}
 use Rattle.rbbi_tool.proofs.StageLemmas.{stops_first}
@@ -13,7 +14,7 @@ returns-in-Err g c =
     let props = c.args.props.now in
     let others = c.args.inputs.now.other_rules in
     λ rules compiled.
-    stops_first (as_second (compiled_bytes_stage props c.args.ignored others)) (comparison_stage rules) c.told_of_second.result
+    stops_first (as_second (compiled_bytes_stage props c.args.ignored others)) (λ others. passing (IsComparison rules others)) c.told_of_second.result
     (second_refuses props c.args.ignored c.bytes.result.now others c.in-Err.refusal c.told_of_second.result c.bytes.ensures.bytes c.in-Err.ensures
     c.told_of_second.ensures)
 

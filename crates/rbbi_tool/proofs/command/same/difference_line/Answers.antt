@@ -3,7 +3,7 @@ use Rattle.std.specs.Prelude.{codes}
 use Rattle.std.specs.List.{flat_map}
 use Rattle.std.proofs.lemmas.Iterator.{YieldsList-from_chars}
 use Rattle.std.proofs.lemmas.Iterator.Consumers.{YieldsList-end}
-use Rattle.rbbi_tool.specs.Command.Same.{told_character}
+use Rattle.rbbi_tool.specs.Command.Same.{code_point_digits}
 use Rattle.rbbi_tool.proofs.command.same.difference_line.Goals as goal
 
 pub returns : goal.returns
@@ -13,4 +13,4 @@ returns c =
     c.next.ensures.steps in
     let all : c.loop-character.yielded ≡ c.args.word.now = sym (map-id c.loop-character.yielded) ∙ end.0 ∙ c.as_str.ensures.characters in
     c.in_ok-push.ensures.items ∙ ap (λ line. line ++ 10 ∷ []) c.loop-character.invariant
-    ∙ ap (λ w. (codes "differ" ++ flat_map told_character w) ++ 10 ∷ []) all
+    ∙ ap (λ w. (codes "differ" ++ flat_map (λ c. 32 ∷ code_point_digits c) w) ++ 10 ∷ []) all
