@@ -1,5 +1,5 @@
 -- Each stage is determined, and so is the outcome. The laws of the lower crates are handed in.
-use Rattle.std.proofs.Common.{◌≡◌, ◌≢◌, ◌⊎◌, ◌+◌, inl, inr, ⊎_elim, ℕ, Bool, true, false, List, [], ◌∷◌, length, Option, Some, None, is_some, sym}
+use Rattle.std.proofs.Common.{◌≡◌, ◌≢◌, ◌⊎◌, ◌+◌, inl, inr, ⊎_elim, ℕ, Bool, true, false, List, [], ◌∷◌, Option, Some, None, sym}
 use Rattle.std.proofs.Common.{refl, ap, ◌∙◌}
 use Rattle.std.proofs.Common.{arith}
 use Rattle.std.specs.Prelude.{codes, Result, Err, Ok}
@@ -46,8 +46,7 @@ use Rattle.rbbi_command.specs.declared.inputs.Input.{Input}
 use Rattle.rbbi_command.specs.declared.files.Source.{Source}
 use Rattle.rbbi_command.specs.declared.refusal.Subject.{Subject}
 use Rattle.rbbi_command.specs.declared.refusal.Subject.TheVariants as subject
-use Rattle.rbbi_command.specs.declared.refusal.Place.TheVariants.{Whole, Byte, Row}
-use Rattle.rbbi_command.specs.declared.refusal.Refusal.{Refusal}
+use Rattle.rbbi_command.specs.declared.refusal.Place.TheVariants.{Byte, Row}
 use Rattle.rbbi_command.specs.declared.refusal.Refusal.TheVariants.{Fault}
 use Rattle.rbbi_command.specs.Counts.{IsCount}
 use Rattle.rbbi_command.specs.Stages.{Stage, followed_by, passing, gives}

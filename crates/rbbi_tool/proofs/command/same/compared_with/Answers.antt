@@ -1,6 +1,5 @@
 use Rattle.std.proofs.Common.{refl, inl, subst}
 use Rattle.std.proofs.lemmas.Result.{err_from_is_err_and}
-use Rattle.rbbi_command.specs.Inputs.{inputs_in}
 use Rattle.rbbi_command.specs.Stages.{passing}
 use Rattle.rbbi_tool.specs.Basis.{compiled_bytes_stage}
 use Rattle.rbbi_tool.specs.Command.Same.{as_second, IsComparison}
