@@ -411,10 +411,10 @@ def tally(bench):
             line.time = time_text(each[size])
             line.verdict = verdict(each[size], target) if target else ''
         yield line
-    line = Line('such an edit in 12 M over one in 1 M', lacking, target='3 times')
+    line = Line('such an edit in 12 M over one in 1 M', lacking, target='2 times')
     if not lacking:
         times = each[TWELVE_MILLION] / each[ONE_MILLION]
-        line.time, line.verdict = f'{times:.1f} times', verdict(times, 3)
+        line.time, line.verdict = f'{times:.1f} times', verdict(times, 2)
     yield line
     line = Line('`tally`, word.rules, prose, 12 M: memory a segment, beside that of `run`', lacking,
                 target='12 bytes')
