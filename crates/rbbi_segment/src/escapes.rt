@@ -121,7 +121,7 @@ pub(crate) fn append_character(c: char, within: Within, out: &mut Vec<u8>) -> Re
     append_other(c, within, out)
 }
 
-/// The same of any character.
+/// Appends a character that is printable ASCII or not, or the escape of it.
 fn append_other(c: char, within: Within, out: &mut Vec<u8>) -> Result<(), AllocError>
     ensures { OnOk result (out.new.items ≡ out.old.items ++ spec.shown within c) }
 {

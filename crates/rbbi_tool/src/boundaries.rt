@@ -178,7 +178,7 @@ fn put_boundaries_of<T: FlatText, K: Sink, L: Ledger>(
     }
 }
 
-/// The same of a file's text, in the form that it is kept in.
+/// Writes the lines of a file's text, in the form that the text is kept in.
 pub(crate) fn put_boundaries<K: Sink, L: Ledger>(
     alloc: Global,
     table: &Table,
