@@ -4,12 +4,11 @@ use Rattle.rbbi_model.specs.Tables.{Table as BreakTable}
 use Rattle.rbbi_props.specs.Rows.{File}
 use Rattle.rbbi_session.specs.UnitSessions.{UnitSession}
 use Rattle.rbbi_c.specs.declared.held.Held.{Held}
-use Rattle.rbbi_c.specs.declared.held.Held.TheVariants.{Lent, Properties, Table, Session}
+use Rattle.rbbi_c.specs.declared.held.Held.TheVariants.{Properties, Table, Session}
 
 -- the session that it holds
 abbrev pub session_in : Option Held → Option UnitSession
 session_in None = None
-session_in (Some Lent) = None
 session_in (Some (Properties files)) = None
 session_in (Some (Table table)) = None
 session_in (Some (Session session)) = Some session
@@ -17,7 +16,6 @@ session_in (Some (Session session)) = Some session
 -- the table that it holds
 abbrev pub table_in : Option Held → Option BreakTable
 table_in None = None
-table_in (Some Lent) = None
 table_in (Some (Properties files)) = None
 table_in (Some (Table table)) = Some table
 table_in (Some (Session session)) = None
@@ -25,7 +23,6 @@ table_in (Some (Session session)) = None
 -- the property files that it holds
 abbrev pub files_in : Option Held → Option (List File)
 files_in None = None
-files_in (Some Lent) = None
 files_in (Some (Properties files)) = Some files
 files_in (Some (Table table)) = None
 files_in (Some (Session session)) = None

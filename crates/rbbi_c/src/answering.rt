@@ -6,7 +6,7 @@ ghost use Rattle.rbbi_c.specs.Calls.{AnswersThrough, EditsThrough, IsNoText, cod
 use crate::asking::{Ask, Told};
 use crate::codes;
 use crate::handle::Handle;
-use crate::lending::{Lent, give_back, lend};
+use crate::lending::lend;
 use rbbi_session::UnitEditErr;
 use rbbi_text::{MOST_BYTES, Steps, utf8_text};
 use std::alloc::Global;
@@ -43,13 +43,16 @@ fn ask_counted<L: Ledger>(
         session.new.held }
 {
     let alloc = Global::new(memory);
-    let Some(Lent { desk, room }) = lend(alloc, session) else {
+    let Some(mut held) = session.take(alloc) else {
         return codes::HANDLE;
     };
     let mut steps = Steps::<L>::exported(memory, blank);
-    let (desk, told) = desk.ask(asked, &mut steps);
-    give_back(alloc, session, desk, room);
-    tell(told, number)
+    let code = match lend(&mut held) {
+        Some(desk) => tell(desk.ask(asked, &mut steps), number),
+        None => codes::HANDLE,
+    };
+    session.put(alloc, held);
+    code
 }
 
 /// Asks the session that a handle holds. It takes no memory.
@@ -106,13 +109,16 @@ fn edit_counted<L: Ledger>(
         Err(code) => return code,
     };
     let alloc = Global::new(memory);
-    let Some(Lent { desk, room }) = lend(alloc, session) else {
+    let Some(mut held) = session.take(alloc) else {
         return codes::HANDLE;
     };
     let mut steps = Steps::<L>::exported(memory, blank);
-    let (desk, edited) = desk.replace(at, remove, text, &mut steps);
-    give_back(alloc, session, desk, room);
-    edit_code(edited)
+    let code = match lend(&mut held) {
+        Some(desk) => edit_code(desk.replace(at, remove, text, &mut steps)),
+        None => codes::HANDLE,
+    };
+    session.put(alloc, held);
+    code
 }
 
 /// Edits the session that a handle holds.

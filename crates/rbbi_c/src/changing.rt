@@ -6,7 +6,7 @@ ghost use Rattle.rbbi_c.specs.inner.Removing.{IsRemoved, IsNotRemoved, IsEditOf}
 use crate::answering::{edit_code, text_of};
 use crate::codes;
 use crate::handle::Handle;
-use crate::lending::{Lent, give_back, lend};
+use crate::lending::lend;
 use crate::part::copy_of;
 use rbbi_change::{Before, Edit, changed};
 use rbbi_session::{UnitEditErr, UnitSession, Walk};
@@ -134,13 +134,18 @@ fn edit_telling_counted<L: Ledger>(
         Err(code) => return code,
     };
     let alloc = Global::new(memory);
-    let Some(Lent { desk, room }) = lend(alloc, session) else {
+    let Some(mut held) = session.take(alloc) else {
         return codes::HANDLE;
     };
     let mut steps = Steps::<L>::exported(memory, blank);
-    let (desk, edited) = desk.replace_telling(alloc, at, remove, text, change, &mut steps);
-    give_back(alloc, session, desk, room);
-    edit_code(edited)
+    let code = match lend(&mut held) {
+        Some(desk) => {
+            edit_code(desk.replace_telling(alloc, at, remove, text, change, &mut steps))
+        }
+        None => codes::HANDLE,
+    };
+    session.put(alloc, held);
+    code
 }
 
 /// Puts bytes of UTF-8 in place of a part of the text, and the cursor at 0, and writes what that

@@ -89,18 +89,14 @@ pub(crate) fn add_through(
     if bytes.len() > MOST_BYTES {
         return codes::TOO_LONG;
     }
-    let Some(mut room) = files.take(alloc) else {
+    let Some(mut held) = files.take(alloc) else {
         return codes::HANDLE;
     };
-    let (held, code) = match Box::replace(&mut room, Held::Lent) {
-        Held::Properties(mut list) => {
-            let code = add_file(&mut list, property, bytes, fault, name);
-            (Held::Properties(list), code)
-        }
-        other => (other, codes::HANDLE),
+    let code = match &mut *held {
+        Held::Properties(list) => add_file(list, property, bytes, fault, name),
+        Held::Table(_) | Held::Session(_) => codes::HANDLE,
     };
-    Box::replace(&mut room, held);
-    files.put(alloc, room);
+    files.put(alloc, held);
     code
 }
 

@@ -7,12 +7,13 @@ ghost use Rattle.rbbi_session.specs.UnitWalks.{unit_view};
 ghost use Rattle.rbbi_c.specs.Reading.{AreListed};
 ghost use Rattle.rbbi_c.specs.Changing.{IsToldChange};
 ghost use Rattle.rbbi_c.specs.inner.Removing.{IsEditOf};
+ghost use Rattle.rbbi_c.specs.inner.Desks.{IsKept, IsAtOffset, resumed_from};
 
 use crate::asking::{Ask, Told, answered};
 use crate::changing::{Changed, replace_telling};
 use crate::copying::copy_front;
 use crate::shared::SharedTable;
-use rbbi_session::{Paused, UnitEditErr, UnitSession, Walk};
+use rbbi_session::{Paused, Session, UnitEditErr, UnitSession, Walk};
 use rbbi_table::FrontPlaces;
 use rbbi_text::{Pieces, Steps, Unit};
 use std::alloc::{AllocError, Global};
@@ -25,7 +26,10 @@ use std::sync::ledger::Ledger;
 pub struct Desk {
     pub(crate) table: SharedTable,
     pub(crate) unit: Unit,
-    pub(crate) paused: Paused<Pieces>,
+    /// Where the cursor lies in the unit.
+    pub(crate) offset: u32,
+    /// The session without its table. A call takes it, and puts it back.
+    pub(crate) paused: Option<Paused<Pieces>>,
     /// Space for searches in the table.
     pub(crate) marks: FrontPlaces,
 }
@@ -33,14 +37,48 @@ pub struct Desk {
 impl Model for Desk {
     ghost use Rattle.rbbi_session.specs.UnitSessions.{UnitSession};
     ghost use Rattle.std.specs.Prelude.{◌≡◌};
-    ghost use Rattle.rbbi_session.specs.Pausing.{IsPausedBy, resumed};
+    ghost use Rattle.rbbi_c.specs.inner.Desks.{IsKept, IsAtOffset, resumed_from};
 
     ghost Value = { UnitSession };
 
-    ghost view = { λ desk. record { unit = desk.unit; asked = resumed desk.table desk.paused } };
+    ghost view = { λ desk. record {
+      unit = desk.unit;
+      asked = resumed_from desk.table desk.paused;
+    } };
 
-    ghost invariant = { λ desk. IsPausedBy desk.table desk.paused
-        × (desk.marks ≡ desk.table.slashes) };
+    ghost invariant = { λ desk. IsKept desk.table desk.paused
+        × IsAtOffset desk.unit desk.offset desk.paused × (desk.marks ≡ desk.table.slashes) };
+}
+
+/// Goes on with a session by characters.
+pub(crate) fn resume<'a>(
+    table: &'a SharedTable,
+    paused: &mut Option<Paused<Pieces>>,
+) -> Session<'a, Pieces>
+    requires { IsKept table.now paused.old }
+    ensures { result ≡ resumed_from table.now paused.old }
+{
+    match paused.take() {
+        Some(paused) => Session::resume(table.table(), paused),
+        None => unreachable!(),
+    }
+}
+
+/// Goes on with a session by a unit, in which its cursor lies here.
+pub(crate) fn resume_in<'a>(
+    table: &'a SharedTable,
+    unit: Unit,
+    offset: u32,
+    paused: &mut Option<Paused<Pieces>>,
+) -> UnitSession<'a, Pieces>
+    requires kept { IsKept table.now paused.old }
+    requires offset { IsAtOffset unit offset paused.old }
+    ensures { result ≡ record { unit = unit; asked = resumed_from table.now paused.old } }
+{
+    match paused.take() {
+        Some(paused) => UnitSession::resume(table.table(), paused, unit, offset),
+        None => unreachable!(),
+    }
 }
 
 impl Desk {
@@ -55,159 +93,103 @@ impl Desk {
     {
         let marks = FrontPlaces::new(alloc, table.table())?;
         let session = UnitSession::open(alloc, table.table(), text, unit)?;
-        let paused = session.pause();
+        let offset = session.current();
+        let paused = Some(session.pause());
         Ok(Desk {
             table,
             unit,
+            offset,
             paused,
             marks,
         })
     }
 
-    /// What a question answers, and the session after it.
-    pub(crate) fn ask<L: Ledger>(self, asked: Ask, steps: &mut Steps<L>) -> (Desk, Told)
-        ensures told { result.1 ≡ told_of (reply_to unit_view self (question_of asked)) }
-        ensures asked { IsAsked unit_view self (question_of asked) result.0 steps.old steps.new }
+    /// What a question answers.
+    pub(crate) fn ask<L: Ledger>(&mut self, asked: Ask, steps: &mut Steps<L>) -> Told
+        ensures told { result ≡ told_of (reply_to unit_view self.old (question_of asked)) }
+        ensures asked { IsAsked unit_view self.old (question_of asked) self.new
+            steps.old steps.new }
     {
-        let Desk {
-            table,
-            unit,
-            paused,
-            marks,
-        } = self;
-        let mut session = UnitSession::resume(table.table(), paused, unit);
+        let mut session = resume_in(&self.table, self.unit, self.offset, &mut self.paused);
         let told = answered(&mut session, asked, steps);
-        let paused = session.pause();
-        let desk = Desk {
-            table,
-            unit,
-            paused,
-            marks,
-        };
-        (desk, told)
+        self.offset = session.current();
+        self.paused = Some(session.pause());
+        told
     }
 
-    /// What an edit answers, and the session after it.
+    /// What an edit answers.
     pub(crate) fn replace<L: Ledger>(
-        self,
+        &mut self,
         at: u32,
         remove: u32,
         insert: &str,
         steps: &mut Steps<L>,
-    ) -> (Desk, Result<(), UnitEditErr>)
-        ensures { Edits unit_view self at remove (chars insert.now) result.1 result.0
+    ) -> Result<(), UnitEditErr>
+        ensures { Edits unit_view self.old at remove (chars insert.now) result self.new
             steps.old steps.new }
     {
-        let Desk {
-            table,
-            unit,
-            paused,
-            marks,
-        } = self;
-        let mut session = UnitSession::resume(table.table(), paused, unit);
+        let mut session = resume_in(&self.table, self.unit, self.offset, &mut self.paused);
         let edited = session.replace(at, remove, insert, steps);
-        let paused = session.pause();
-        let desk = Desk {
-            table,
-            unit,
-            paused,
-            marks,
-        };
-        (desk, edited)
+        self.offset = session.current();
+        self.paused = Some(session.pause());
+        edited
     }
 
-    /// What an edit answers, and the session after it. Where it is accepted, what it changed is
-    /// written.
+    /// What an edit answers. Where it is accepted, what it changed is written.
     pub(crate) fn replace_telling<L: Ledger>(
-        self,
+        &mut self,
         alloc: Global,
         at: u32,
         remove: u32,
         insert: &str,
         change: &mut Changed,
         steps: &mut Steps<L>,
-    ) -> (Desk, Result<(), UnitEditErr>)
-        ensures edits { IsEditOf self at remove (chars insert.now) result.1 result.0 }
-        ensures told { MatchResult result.1 (λ _.
-            IsToldChange self result.0 at remove (chars insert.now) change.new)
+    ) -> Result<(), UnitEditErr>
+        ensures edits { IsEditOf self.old at remove (chars insert.now) result self.new }
+        ensures told { MatchResult result (λ _.
+            IsToldChange self.old self.new at remove (chars insert.now) change.new)
             (λ _. change.new ≡ change.old) }
     {
-        let Desk {
-            table,
-            unit,
-            paused,
-            marks,
-        } = self;
-        let mut marks = marks;
-        let mut session = UnitSession::resume(table.table(), paused, unit);
+        let mut session = resume_in(&self.table, self.unit, self.offset, &mut self.paused);
         let edited = replace_telling(
             alloc,
-            table.table(),
-            unit,
+            self.table.table(),
+            self.unit,
             &mut session,
             at,
             remove,
             insert,
             change,
-            &mut marks,
+            &mut self.marks,
             steps,
         );
-        let paused = session.pause();
-        let desk = Desk {
-            table,
-            unit,
-            paused,
-            marks,
-        };
-        (desk, edited)
+        self.offset = session.current();
+        self.paused = Some(session.pause());
+        edited
     }
 
-    /// The length of the text in the unit, and the session as it was.
-    pub(crate) fn length(self) -> (Desk, u32)
-        ensures length { result.1 ≡ offset_in self (length self.asked.state.text) }
-        ensures same { result.0 ≡ self }
+    /// The length of the text in the unit. The session stays as it is.
+    pub(crate) fn length(&mut self) -> u32
+        ensures length { result ≡ offset_in self.old (length self.old.asked.state.text) }
+        ensures same { self.new ≡ self.old }
     {
-        let Desk {
-            table,
-            unit,
-            paused,
-            marks,
-        } = self;
-        let session = UnitSession::resume(table.table(), paused, unit);
+        let session = resume_in(&self.table, self.unit, self.offset, &mut self.paused);
         let length = session.units();
-        let paused = session.pause();
-        let desk = Desk {
-            table,
-            unit,
-            paused,
-            marks,
-        };
-        (desk, length)
+        self.paused = Some(session.pause());
+        length
     }
 
-    /// Writes the statuses at the cursor, as many as there is room for. How many there are, and the
-    /// session as it was.
-    pub(crate) fn statuses(self, room: &mut [u32]) -> (Desk, usize)
-        ensures listed { AreListed self room.old room.new result.1 }
-        ensures same { result.0 ≡ self }
+    /// Writes the statuses at the cursor, as many as there is room for. How many there are. The
+    /// session stays as it is.
+    pub(crate) fn statuses(&mut self, room: &mut [u32]) -> usize
+        ensures listed { AreListed self.old room.old room.new result }
+        ensures same { self.new ≡ self.old }
     {
-        let Desk {
-            table,
-            unit,
-            paused,
-            marks,
-        } = self;
-        let session = UnitSession::resume(table.table(), paused, unit);
+        let session = resume_in(&self.table, self.unit, self.offset, &mut self.paused);
         let list = session.status_list();
         copy_front(list, room);
         let count = list.len();
-        let paused = session.pause();
-        let desk = Desk {
-            table,
-            unit,
-            paused,
-            marks,
-        };
-        (desk, count)
+        self.paused = Some(session.pause());
+        count
     }
 }

@@ -1,16 +1,18 @@
 //! Second sessions, over a copy of the text.
 ghost use Rattle.std.specs.Prelude.{◌≡◌, ◌<◌, IfOk};
 ghost use Rattle.rbbi_model.specs.Cover.{IsPlaceOf};
+ghost use Rattle.rbbi_model.specs.Units.{offset_of};
 ghost use Rattle.rbbi_session.specs.Sessions.{boundaries_of};
+ghost use Rattle.rbbi_session.specs.UnitSessions.{offset_in};
 ghost use Rattle.rbbi_c.specs.Forking.{ForksThrough};
 ghost use Rattle.rbbi_c.specs.Holding.{StaysThere};
 
 use crate::bounds::go_back;
 use crate::codes;
-use crate::desk::Desk;
+use crate::desk::{Desk, resume};
 use crate::handle::Handle;
 use crate::held::Held;
-use crate::lending::{Lent, give_back, lend};
+use crate::lending::lend;
 use crate::opening::{is_open, keep};
 use crate::part::copy_of;
 use crate::shared::SharedTable;
@@ -21,75 +23,57 @@ use std::marker::Brand;
 use std::rt::Memory;
 use std::sync::ledger::{Blank, Ledger};
 
-/// A session by the table of another one, over a copy of its text, with its cursor.
+/// A session by the table of another one, over a copy of its text, with its cursor, which lies at
+/// the offset.
 fn forked<L: Ledger>(
     alloc: Global,
     table: &SharedTable,
     unit: Unit,
+    offset: u32,
     session: &Session<'_, Pieces>,
     steps: &mut Steps<L>,
 ) -> Result<Desk, AllocError>
-    requires { session.now.table ≡ table.now }
+    requires table { session.now.table ≡ table.now }
+    requires offset { offset ≡ offset_of unit session.now.state.text session.now.state.cursor }
     ensures { IfOk result (StaysThere (record { unit = unit; asked = session.now })) }
 {
     let text = session.text();
     let copy = copy_of(alloc, text, 0, text.len(), steps)?;
-    let desk = Desk::open(alloc, table.share()?, copy, unit)?;
-    Ok(desk.at(session.current(), steps))
+    let mut desk = Desk::open(alloc, table.share()?, copy, unit)?;
+    desk.go(session.current(), offset, steps);
+    Ok(desk)
 }
 
 impl Desk {
-    /// The session with the cursor at a boundary.
-    fn at<L: Ledger>(self, cursor: u32, steps: &mut Steps<L>) -> Desk
-        requires { IsPlaceOf (boundaries_of self.asked) cursor }
-        ensures unit { result.unit ≡ self.unit }
-        ensures table { result.asked.table ≡ self.asked.table }
-        ensures text { result.asked.state.text ≡ self.asked.state.text }
-        ensures cursor { result.asked.state.cursor ≡ cursor }
+    /// Goes to a boundary, which lies at the offset.
+    fn go<L: Ledger>(&mut self, cursor: u32, offset: u32, steps: &mut Steps<L>)
+        requires cursor { IsPlaceOf (boundaries_of self.old.asked) cursor }
+        requires offset { offset ≡ offset_in self.old cursor }
+        ensures unit { self.new.unit ≡ self.old.unit }
+        ensures table { self.new.asked.table ≡ self.old.asked.table }
+        ensures text { self.new.asked.state.text ≡ self.old.asked.state.text }
+        ensures cursor { self.new.asked.state.cursor ≡ cursor }
     {
-        let Desk {
-            table,
-            unit,
-            paused,
-            marks,
-        } = self;
-        let mut session = Session::resume(table.table(), paused);
+        let mut session = resume(&self.table, &mut self.paused);
         go_back(&mut session, cursor, steps);
-        let paused = session.pause();
-        Desk {
-            table,
-            unit,
-            paused,
-            marks,
-        }
+        self.offset = offset;
+        self.paused = Some(session.pause());
     }
 
-    /// The session as it was, and another one by the same table in the same unit, over a copy of
-    /// the text, with the same cursor.
+    /// Another session by the same table in the same unit, over a copy of the text, with the same
+    /// cursor. This one stays as it is.
     pub(crate) fn fork<L: Ledger>(
-        self,
+        &mut self,
         alloc: Global,
         steps: &mut Steps<L>,
-    ) -> (Desk, Result<Desk, AllocError>)
-        ensures same { result.0 ≡ self }
-        ensures forked { IfOk result.1 (StaysThere self) }
+    ) -> Result<Desk, AllocError>
+        ensures same { self.new ≡ self.old }
+        ensures forked { IfOk result (StaysThere self.old) }
     {
-        let Desk {
-            table,
-            unit,
-            paused,
-            marks,
-        } = self;
-        let session = Session::resume(table.table(), paused);
-        let fork = forked(alloc, &table, unit, &session, steps);
-        let paused = session.pause();
-        let desk = Desk {
-            table,
-            unit,
-            paused,
-            marks,
-        };
-        (desk, fork)
+        let session = resume(&self.table, &mut self.paused);
+        let fork = forked(alloc, &self.table, self.unit, self.offset, &session, steps);
+        self.paused = Some(session.pause());
+        fork
     }
 }
 
@@ -110,16 +94,19 @@ fn fork_counted<L: Ledger>(
     if is_open(alloc, copy) {
         return codes::HANDLE;
     }
-    let Some(Lent { desk, room }) = lend(alloc, session) else {
+    let Some(mut held) = session.take(alloc) else {
         return codes::HANDLE;
     };
     let mut steps = Steps::<L>::exported(memory, blank);
-    let (desk, fork) = desk.fork(alloc, &mut steps);
-    give_back(alloc, session, desk, room);
-    match fork {
-        Ok(fork) => keep(alloc, copy, Held::Session(fork)),
-        Err(_) => codes::MEMORY,
-    }
+    let code = match lend(&mut held) {
+        Some(desk) => match desk.fork(alloc, &mut steps) {
+            Ok(fork) => keep(alloc, copy, Held::Session(fork)),
+            Err(_) => codes::MEMORY,
+        },
+        None => codes::HANDLE,
+    };
+    session.put(alloc, held);
+    code
 }
 
 /// Opens a second session over a copy of a session's text, by the same table in the same unit, with

@@ -6,8 +6,6 @@ use rbbi_props::PropTable;
 /// What a handle holds.
 #[derive(Drop)]
 pub enum Held {
-    /// Nothing, while a call works on what was held.
-    Lent,
     /// Property files that were read.
     Properties(PropTable),
     /// A table.

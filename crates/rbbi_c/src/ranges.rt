@@ -10,7 +10,7 @@ ghost use Rattle.rbbi_c.specs.Listing.{ListsRangeThrough, SegmentThrough, progre
 use crate::codes;
 use crate::copying::copy_front;
 use crate::handle::Handle;
-use crate::lending::{Lent, give_back, lend};
+use crate::lending::lend;
 use crate::listing::Listing;
 use crate::segment::Segment;
 use rbbi_text::Steps;
@@ -79,13 +79,19 @@ fn list_counted<L: Ledger>(
         result (progress count.old resume.old) (progress count.new resume.new) session.new.held }
 {
     let alloc = Global::new(memory);
-    let Some(Lent { desk, room }) = lend(alloc, session) else {
+    let Some(mut held) = session.take(alloc) else {
         return codes::HANDLE;
     };
     let mut steps = Steps::<L>::exported(memory, blank);
-    let (desk, listing) = desk.boundaries(from, to, places, statuses, &mut steps);
-    give_back(alloc, session, desk, room);
-    tell_listing(listing, count, resume)
+    let code = match lend(&mut held) {
+        Some(desk) => {
+            let listing = desk.boundaries(from, to, places, statuses, &mut steps);
+            tell_listing(listing, count, resume)
+        }
+        None => codes::HANDLE,
+    };
+    session.put(alloc, held);
+    code
 }
 
 /// Lists boundaries backwards, with a counter of its own.
@@ -108,13 +114,19 @@ fn list_back_counted<L: Ledger>(
         result (progress count.old resume.old) (progress count.new resume.new) session.new.held }
 {
     let alloc = Global::new(memory);
-    let Some(Lent { desk, room }) = lend(alloc, session) else {
+    let Some(mut held) = session.take(alloc) else {
         return codes::HANDLE;
     };
     let mut steps = Steps::<L>::exported(memory, blank);
-    let (desk, listing) = desk.boundaries_before(from, to, places, statuses, &mut steps);
-    give_back(alloc, session, desk, room);
-    tell_listing(listing, count, resume)
+    let code = match lend(&mut held) {
+        Some(desk) => {
+            let listing = desk.boundaries_before(from, to, places, statuses, &mut steps);
+            tell_listing(listing, count, resume)
+        }
+        None => codes::HANDLE,
+    };
+    session.put(alloc, held);
+    code
 }
 
 /// Asks for a segment, with a counter of its own.
@@ -132,13 +144,16 @@ fn segment_counted<L: Ledger>(
         session.new.held }
 {
     let alloc = Global::new(memory);
-    let Some(Lent { desk, room }) = lend(alloc, session) else {
+    let Some(mut held) = session.take(alloc) else {
         return codes::HANDLE;
     };
     let mut steps = Steps::<L>::exported(memory, blank);
-    let (desk, found) = desk.segment(at, &mut steps);
-    give_back(alloc, session, desk, room);
-    tell_segment(found, segment)
+    let code = match lend(&mut held) {
+        Some(desk) => tell_segment(desk.segment(at, &mut steps), segment),
+        None => codes::HANDLE,
+    };
+    session.put(alloc, held);
+    code
 }
 
 /// Reads a part of the text, with a counter of its own.
@@ -158,12 +173,15 @@ fn part_counted<L: Ledger>(
         count.old count.new session.new.held }
 {
     let alloc = Global::new(memory);
-    let Some(Lent { desk, room: held }) = lend(alloc, session) else {
+    let Some(mut held) = session.take(alloc) else {
         return codes::HANDLE;
     };
     let mut steps = Steps::<L>::exported(memory, blank);
-    let (desk, part) = desk.part(alloc, from, to, &mut steps);
-    give_back(alloc, session, desk, held);
+    let part = match lend(&mut held) {
+        Some(desk) => desk.part(alloc, from, to, &mut steps),
+        None => Err(codes::HANDLE),
+    };
+    session.put(alloc, held);
     match part {
         Ok(part) => tell_part(part.as_bytes(), room, count),
         Err(code) => code,

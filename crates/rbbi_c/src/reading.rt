@@ -9,11 +9,10 @@ ghost use Rattle.rbbi_c.specs.Segments.{IsSegmentAt};
 ghost use Rattle.rbbi_c.specs.Parts.{IsPart, IsNoPart};
 ghost use Rattle.rbbi_c.specs.Holding.{StaysThere};
 
-use crate::desk::Desk;
+use crate::desk::{Desk, resume};
 use crate::listing::{Listing, list_before, list_past};
 use crate::part::part_of;
 use crate::segment::{Segment, segment_at};
-use rbbi_session::Session;
 use rbbi_text::Steps;
 use std::alloc::Global;
 use std::sync::ledger::Ledger;
@@ -21,130 +20,81 @@ use std::sync::ledger::Ledger;
 impl Desk {
     /// Lists the boundaries past one number, up to another.
     pub(crate) fn boundaries<L: Ledger>(
-        self,
+        &mut self,
         from: u32,
         to: u32,
         places: &mut [u32],
         statuses: &mut [u32],
         steps: &mut Steps<L>,
-    ) -> (Desk, Listing)
-        ensures listed { ListsOut (past_up_to from to (reported unit_view self)) from
-            (columns places.old statuses.old) (columns places.new statuses.new) result.1 }
-        ensures stays { StaysThere self result.0 }
+    ) -> Listing
+        ensures listed { ListsOut (past_up_to from to (reported unit_view self.old)) from
+            (columns places.old statuses.old) (columns places.new statuses.new) result }
+        ensures stays { StaysThere self.old self.new }
     {
-        let Desk {
-            table,
-            unit,
-            paused,
-            marks,
-        } = self;
-        let mut marks = marks;
-        let mut session = Session::resume(table.table(), paused);
+        let mut session = resume(&self.table, &mut self.paused);
         let listing = list_past(
             &mut session,
-            table.table(),
-            unit,
+            self.table.table(),
+            self.unit,
             from,
             to,
             places,
             statuses,
-            &mut marks,
+            &mut self.marks,
             steps,
         );
-        let paused = session.pause();
-        let desk = Desk {
-            table,
-            unit,
-            paused,
-            marks,
-        };
-        (desk, listing)
+        self.paused = Some(session.pause());
+        listing
     }
 
     /// Lists the boundaries before one number, down to another, the last one first.
     pub(crate) fn boundaries_before<L: Ledger>(
-        self,
+        &mut self,
         from: u32,
         to: u32,
         places: &mut [u32],
         statuses: &mut [u32],
         steps: &mut Steps<L>,
-    ) -> (Desk, Listing)
-        ensures listed { ListsOut (before_down_to from to (reported unit_view self)) from
-            (columns places.old statuses.old) (columns places.new statuses.new) result.1 }
-        ensures stays { StaysThere self result.0 }
+    ) -> Listing
+        ensures listed { ListsOut (before_down_to from to (reported unit_view self.old)) from
+            (columns places.old statuses.old) (columns places.new statuses.new) result }
+        ensures stays { StaysThere self.old self.new }
     {
-        let Desk {
-            table,
-            unit,
-            paused,
-            marks,
-        } = self;
-        let mut session = Session::resume(table.table(), paused);
-        let listing = list_before(&mut session, unit, from, to, places, statuses, steps);
-        let paused = session.pause();
-        let desk = Desk {
-            table,
-            unit,
-            paused,
-            marks,
-        };
-        (desk, listing)
+        let mut session = resume(&self.table, &mut self.paused);
+        let listing = list_before(&mut session, self.unit, from, to, places, statuses, steps);
+        self.paused = Some(session.pause());
+        listing
     }
 
     /// The segment that holds a place, if one does.
-    pub(crate) fn segment<L: Ledger>(self, at: u32, steps: &mut Steps<L>) -> (Desk, Option<Segment>)
-        ensures found { let boundaries = reported unit_view self in MatchOption result.1
+    pub(crate) fn segment<L: Ledger>(&mut self, at: u32, steps: &mut Steps<L>) -> Option<Segment>
+        ensures found { let boundaries = reported unit_view self.old in MatchOption result
             (first_after boundaries at ≡ None) (IsSegmentAt boundaries at) }
-        ensures stays { StaysThere self result.0 }
+        ensures stays { StaysThere self.old self.new }
     {
-        let Desk {
-            table,
-            unit,
-            paused,
-            marks,
-        } = self;
-        let mut session = Session::resume(table.table(), paused);
-        let segment = segment_at(&mut session, unit, at, steps);
-        let paused = session.pause();
-        let desk = Desk {
-            table,
-            unit,
-            paused,
-            marks,
-        };
-        (desk, segment)
+        let mut session = resume(&self.table, &mut self.paused);
+        let segment = segment_at(&mut session, self.unit, at, steps);
+        self.paused = Some(session.pause());
+        segment
     }
 
-    /// The characters between two numbers, in UTF-8, or the code of the refusal. The session is as
-    /// it was.
+    /// The characters between two numbers, in UTF-8, or the code of the refusal. The session stays as
+    /// it is.
     pub(crate) fn part<L: Ledger>(
-        self,
+        &mut self,
         alloc: Global,
         from: u32,
         to: u32,
         steps: &mut Steps<L>,
-    ) -> (Desk, Result<String, u32>)
-        ensures read { MatchResult result.1
-            (λ made. IsPart self.unit self.asked.state.text from to (string_bytes made))
-            (IsNoPart self.unit self.asked.state.text from to) }
-        ensures same { result.0 ≡ self }
+    ) -> Result<String, u32>
+        ensures read { MatchResult result
+            (λ made. IsPart self.old.unit self.old.asked.state.text from to (string_bytes made))
+            (IsNoPart self.old.unit self.old.asked.state.text from to) }
+        ensures same { self.new ≡ self.old }
     {
-        let Desk {
-            table,
-            unit,
-            paused,
-            marks,
-        } = self;
-        let session = Session::resume(table.table(), paused);
-        let part = part_of(alloc, session.text(), unit, from, to, steps);
-        let paused = session.pause();
-        let desk = Desk {
-            table,
-            unit,
-            paused,
-            marks,
-        };
-        (desk, part)
+        let session = resume(&self.table, &mut self.paused);
+        let part = part_of(alloc, session.text(), self.unit, from, to, steps);
+        self.paused = Some(session.pause());
+        part
     }
 }

@@ -8,7 +8,7 @@ use crate::answering::edit_through;
 use crate::codes;
 use crate::handle::Handle;
 use crate::held::Held;
-use crate::lending::{Lent, give_back, lend};
+use crate::lending::lend;
 use crate::opening::{is_open, keep, session_of};
 use std::alloc::Global;
 use std::rt::Memory;
@@ -64,13 +64,18 @@ pub extern "C" fn rbbi_c_length(memory: Memory, session: &mut Handle, length: &m
     ensures { MeasuresThrough session.old.held result length.old length.new session.new.held }
 {
     let alloc = Global::new(memory);
-    let Some(Lent { desk, room }) = lend(alloc, session) else {
+    let Some(mut held) = session.take(alloc) else {
         return codes::HANDLE;
     };
-    let (desk, units) = desk.length();
-    give_back(alloc, session, desk, room);
-    *length = units;
-    codes::OK
+    let code = match lend(&mut held) {
+        Some(desk) => {
+            *length = desk.length();
+            codes::OK
+        }
+        None => codes::HANDLE,
+    };
+    session.put(alloc, held);
+    code
 }
 
 /// Writes the statuses of the boundary at the cursor, which rise, as many as there is room for, and
@@ -86,14 +91,20 @@ pub extern "C" fn rbbi_c_statuses(
         session.new.held }
 {
     let alloc = Global::new(memory);
-    let Some(Lent { desk, room: held }) = lend(alloc, session) else {
+    let Some(mut held) = session.take(alloc) else {
         return codes::HANDLE;
     };
-    let (desk, statuses) = desk.statuses(room);
-    give_back(alloc, session, desk, held);
-    *count = statuses;
-    if statuses > room.len() {
-        return codes::ROOM;
-    }
-    codes::OK
+    let code = match lend(&mut held) {
+        Some(desk) => {
+            *count = desk.statuses(room);
+            if *count > room.len() {
+                codes::ROOM
+            } else {
+                codes::OK
+            }
+        }
+        None => codes::HANDLE,
+    };
+    session.put(alloc, held);
+    code
 }

@@ -19,7 +19,8 @@ use Rattle.rbbi_session.specs.Asking.{Asks}
 use Rattle.rbbi_session.specs.UnitSessions.{UnitSession, offset_in, UnitAsks}
 use Rattle.rbbi_session.specs.Walks.{IsAsked, IsAnswered}
 use Rattle.rbbi_session.specs.UnitWalks.{unit_view}
-use Rattle.rbbi_session.specs.inner.UnitPlaces.{IsPlaceUpTo, IsPlaceFrom}
+use Rattle.rbbi_session.specs.inner.UnitPlaces.{IsPlaceUpTo, IsPlaceFrom, IsKnown}
+use Rattle.rbbi_session.specs.declared.known.Known.{Known}
 use Rattle.rbbi_session.proofs.Answering.{place_within, none_past}
 use Rattle.rbbi_session.proofs.UnitCursors.{place_before_here, unit_answer}
 
@@ -36,12 +37,29 @@ pub within_text : (session : Session) (p : ℕ) → IsPlaceOf (boundaries_of ses
 within_text session p here =
     place_within (boundaries_of session) p (length session.state.text) (none_past session.table session.state.text) here
 
+pub here_at : (session : Session) (p : ℕ) → Place p ≡ (answer_of session Current).reply → p ≡ session.state.cursor
+here_at session p is = cc
+
 -- the cursor lies within the text
 pub here_within : (session : Session) (p : ℕ) → Place p ≡ (answer_of session Current).reply → IsPlaceOf (boundaries_of session) p →
     session.state.cursor ≤ length session.state.text
 here_within session p is here =
-    let same : p ≡ session.state.cursor = cc in
-    omega (arith, same, within_text session p here)
+    omega (arith, here_at session p is, within_text session p here)
+
+-- the cursor of the session as it is seen lies within the text
+pub low_in : {was old : UnitSession} → was ≡ old → old.asked.state.cursor ≤ length old.asked.state.text →
+    was.asked.state.cursor ≤ length was.asked.state.text
+low_in same low = subst (λ (s : UnitSession). s.asked.state.cursor ≤ length s.asked.state.text) (sym same) low
+
+-- a place whose offset was known before a question is one after it
+pub known_on : {was old : UnitSession} {place : ℕ} {new : Session} {known : Known} → was ≡ old → IsKnown old.unit old.asked.state.text known →
+    MovesTo was.asked place new → IsKnown was.unit new.state.text known
+known_on {was = was} {known = known} same is moves =
+    subst (λ x. IsKnown was.unit x known) (sym (ap (λ s. s.text) moves.state_is))
+    (subst (λ (s : UnitSession). IsKnown s.unit s.asked.state.text known) (sym same) is)
+
+pub found_at : (r r' : Option ℕ) {o o' : ℕ} → o ≡ o' → MatchOption r (r' ≡ None) (λ _. r' ≡ Some o) → MatchOption r (r' ≡ None) (λ _. r' ≡ Some o')
+found_at r r' same is = subst (λ p. MatchOption r (r' ≡ None) (λ _. r' ≡ Some p)) same is
 
 placed : (found : Option ℕ) (otherwise p : ℕ) → Place p ≡ (moved found otherwise).reply → (moved found otherwise).cursor ≡ p
 placed None otherwise p is = cc

@@ -1,7 +1,7 @@
 -- The places that a number names, where the offset of a place lies, and which places lie before an offset.
 use Rattle.std.proofs.Common.{◌≡◌, ◌≢◌, ℕ, ◌+◌, ◌<◌, ◌≤◌, true, false, ltb, leb, List, Option, Some, None, length, refl, sym, ◌∙◌, ⊎_elim, inl, inr}
 use Rattle.std.proofs.Common.{arith, subst}
-use Rattle.std.specs.Prelude.{MatchBool, unwrap_or}
+use Rattle.std.specs.Prelude.{MatchBool, unwrap_or, ◌⊎◌}
 use Rattle.std.specs.List.{AllByRecursion}
 use Rattle.std.proofs.lemmas.Bool.{cases_lt, lt-ltb, le-ltb, lt-leb, le-leb, leb-true, leb-false, false≢true}
 use Rattle.rbbi_model.specs.declared.unit.Unit.{Unit as TextUnit}
@@ -19,7 +19,7 @@ use Rattle.rbbi_session.specs.Sessions.{boundaries_of, answer_of}
 use Rattle.rbbi_session.specs.UnitSessions.{UnitSession, offset_in, state_of}
 use Rattle.rbbi_session.specs.Walks.{reported}
 use Rattle.rbbi_session.specs.UnitWalks.{unit_view}
-use Rattle.rbbi_session.specs.inner.UnitPlaces.{IsPlaceUpTo, IsPlaceFrom}
+use Rattle.rbbi_session.specs.inner.UnitPlaces.{IsPlaceUpTo, IsPlaceFrom, IsKnown}
 use Rattle.rbbi_session.proofs.Answering.{none_past}
 
 -- what is found of a number
@@ -38,6 +38,12 @@ module _ (unit : TextUnit) (x : List ℕ) (o : ℕ) (index : Index) (is : IsInde
 
   pub before_is : place_before unit x o ≡ index.at
   before_is = greatest (greatest_below (λ i. leb (offset_of unit x i) o) (length x + 1)) refl
+
+-- what is found in the text of a session, as it is seen
+pub index_seen : {was old : UnitSession} {x : List ℕ} {o : ℕ} {index : Index} → was ≡ old → x ≡ was.asked.state.text → IsIndex was.unit x o index →
+    IsIndex old.unit old.asked.state.text o index
+index_seen {was = was} {o = o} {index = index} same text is =
+    subst (λ (s : UnitSession). IsIndex s.unit s.asked.state.text o index) same (subst (λ y. IsIndex was.unit y o index) text is)
 
 -- the first place that doesn't lie before the number, where each earlier one does
 pub from_is : (unit : TextUnit) (x : List ℕ) (o p : ℕ) → p ≤ length x + 1 → ((q : ℕ) → q < p → q ≤ length x → offset_of unit x q < o) →
@@ -106,6 +112,30 @@ module _ (unit : TextUnit) (x : List ℕ) (o : ℕ) where
             let low = is.greatest p short (omega (arith, at)) in
             let less = before p (omega (arith, low)) short in omega (arith, less, at);
       }
+
+  -- whether the number lies past the text's end
+  pub up_to_end : (index : Index) → IsIndex unit x o index → index.whole ≡ true ⊎ (index.at < length x) → o ≤ offset_of unit x (length x)
+  up_to_end index is (inl whole) = let low = rising index.at (length x) is.within (omega arith) in omega (arith, low, is.whole.0 whole)
+  up_to_end index is (inr short) =
+      ⊎_elim (λ past. let low = is.greatest (length x) (omega arith) (omega (arith, past)) in absurd (omega (arith, low, short))) (λ up_to. up_to)
+      (cases_lt (offset_of unit x (length x)) o)
+
+  pub past_end : (index : Index) → IsIndex unit x o index → index.whole ≡ false → length x ≤ index.at → offset_of unit x (length x) < o
+  past_end index is isnt all =
+      let never_at : offset_of unit x index.at ≢ o = λ at. false≢true (sym isnt ∙ is.whole.1 at) in
+      let low = rising (length x) index.at all is.within in omega (arith, low, is.before, never_at)
+
+  pub place_after : (index : Index) → IsIndex unit x o index → index.whole ≡ false → IsPlaceFrom unit x o (record { at = index.at + 1; whole = false })
+  place_after index is isnt =
+      ⊎_elim
+      (λ past. let low = is.greatest (length x) (omega arith) (omega (arith, past)) in
+      let all : length x ≡ index.at = omega (arith, low, is.within) in
+      subst (λ n. IsPlaceFrom unit x o (record { at = n + 1; whole = false })) all (place_past past))
+      (λ up_to. place_inside index is isnt up_to) (cases_lt (offset_of unit x (length x)) o)
+
+  -- the place that it names is known
+  pub named_is : (index : Index) → IsIndex unit x o index → index.whole ≡ true → IsKnown unit x (record { at = index.at; offset = o })
+  named_is index is whole = record { within = is.within; offset_is = sym (is.whole.0 whole) }
 
 -- what lies at the offset of a place is the place
 module _ (unit : TextUnit) (x : List ℕ) (c : ℕ) (within : c ≤ length x) where

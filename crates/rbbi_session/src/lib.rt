@@ -7,6 +7,7 @@
 #![tactic(auto)]
 
 mod boundary;
+mod known;
 mod paused;
 mod session;
 mod statuses;

@@ -1,15 +1,16 @@
 //! A session whose places count a unit.
-ghost use Rattle.std.specs.Prelude.{◌≡◌, ◌+◌, length, IfOk, MatchOption};
-ghost use Rattle.std.specs.Prelude.{if◌then◌else◌, nat_lt};
+ghost use Rattle.std.specs.Prelude.{◌≡◌, ◌+◌, ◌≤◌, length, IfOk, IsTrue, if◌then◌else◌, nat_lt};
+ghost use Rattle.rbbi_model.specs.Units.{offset_of};
 ghost use Rattle.rbbi_model.specs.UnitAnswers.{place_before};
 ghost use Rattle.rbbi_session.specs.Sessions.{HasTrueRuns};
 ghost use Rattle.rbbi_session.specs.UnitSessions.{offset_in, IsOpenedBy};
 ghost use Rattle.rbbi_session.specs.Pausing.{IsPausedBy, IsPaused, resumed};
-ghost use Rattle.rbbi_session.specs.inner.UnitPlaces.{IsPlaceUpTo, IsPlaceFrom};
+ghost use Rattle.rbbi_session.specs.inner.UnitPlaces.{IsPlaceUpTo, IsPlaceFrom, IsKnown};
 
-use crate::{Paused, Session, Walk};
+use crate::known::Known;
+use crate::{Paused, Session};
 use rbbi_table::Table;
-use rbbi_text::{Index, Unit, UnitText};
+use rbbi_text::{Chars, Index, Unit, UnitText};
 use std::alloc::{AllocError, Global};
 use std::marker::Model;
 
@@ -23,14 +24,21 @@ use std::marker::Model;
 pub struct UnitSession<'a, T: UnitText> {
     pub(crate) asked: Session<'a, T>,
     pub(crate) unit: Unit,
+    /// Where the cursor lies in the unit.
+    pub(crate) offset: u32,
 }
 
 impl<'a, T: UnitText> Model for UnitSession<'a, T> {
+    ghost use Rattle.std.specs.Prelude.{◌≡◌};
+    ghost use Rattle.rbbi_model.specs.Units.{offset_of};
     ghost use Rattle.rbbi_session.specs.UnitSessions.{UnitSession};
 
     ghost Value = { UnitSession };
 
     ghost view = { λ session. record { unit = session.unit; asked = session.asked } };
+
+    ghost invariant = { λ session. let state = session.asked.state in
+        session.offset ≡ offset_of session.unit state.text state.cursor };
 }
 
 impl<'a, T: UnitText + Drop> UnitSession<'a, T> {
@@ -47,7 +55,11 @@ impl<'a, T: UnitText + Drop> UnitSession<'a, T> {
         let mut text = text;
         text.make_ready(unit);
         let asked = Session::open(alloc, table, text)?;
-        Ok(UnitSession { asked, unit })
+        Ok(UnitSession {
+            asked,
+            unit,
+            offset: 0,
+        })
     }
 }
 
@@ -56,18 +68,30 @@ impl<'a, T: UnitText> UnitSession<'a, T> {
     pub fn pause(self) -> Paused<T>
         ensures { IsPaused self.entry.asked result }
     {
-        let UnitSession { asked, unit: _ } = self;
+        let UnitSession {
+            asked,
+            unit: _,
+            offset: _,
+        } = self;
         asked.pause()
     }
 
-    /// Goes on with the table that a session was paused by, by this unit. It takes no memory.
-    pub fn resume(table: &'a Table, paused: Paused<T>, unit: Unit) -> UnitSession<'a, T>
-        requires { IsPausedBy table.now paused }
+    /// Goes on with the table that a session was paused by, by this unit, in which its cursor lies
+    /// here. It takes no memory.
+    pub fn resume(
+        table: &'a Table,
+        paused: Paused<T>,
+        unit: Unit,
+        offset: u32,
+    ) -> UnitSession<'a, T>
+        requires table { IsPausedBy table.now paused }
+        requires offset { offset ≡ offset_of unit paused.state.text paused.state.cursor }
         ensures { result ≡ record { unit = unit; asked = resumed table.now paused } }
     {
         UnitSession {
             asked: Session::resume(table, paused),
             unit,
+            offset,
         }
     }
 
@@ -79,30 +103,58 @@ impl<'a, T: UnitText> UnitSession<'a, T> {
         self.asked.runs_are_true();
     }
 
-    /// The offset of the boundary at the cursor, where a place was found.
-    pub(crate) fn place_found(&self, place: Option<u32>) -> Option<u32>
-        ensures { MatchOption place (result ≡ None)
-            (λ _. result ≡ Some (offset_in self.now self.now.asked.state.cursor)) }
+    /// The cursor, and its offset.
+    pub(crate) fn here(&self) -> Known
+        ensures low { self.now.asked.state.cursor ≤ length self.now.asked.state.text }
+        ensures known { IsKnown self.now.unit self.now.asked.state.text result }
     {
-        match place {
-            Some(_) => Some(self.current()),
-            None => None,
+        Known {
+            at: self.asked.current(),
+            offset: self.offset,
         }
     }
 
-    /// The last place that doesn't lie past a number; a place past the text's end where the number
-    /// is.
-    pub(crate) fn last_place_up_to(&self, o: u32) -> u32
-        ensures place { result
+    /// A place whose offset is known: the one that a number named, or else the cursor.
+    pub(crate) fn known(&self, named: Index, o: u32) -> Known
+        requires { IsTrue named.whole → IsKnown self.now.unit self.now.asked.state.text
+            (record { at = named.at; offset = o }) }
+        ensures low { self.now.asked.state.cursor ≤ length self.now.asked.state.text }
+        ensures known { IsKnown self.now.unit self.now.asked.state.text result }
+    {
+        let here = self.here();
+        if named.whole {
+            return Known {
+                at: named.at,
+                offset: o,
+            };
+        }
+        here
+    }
+
+    /// The last place that doesn't lie past a number, and whether it lies there; a place past the
+    /// text's end where the number is.
+    pub(crate) fn last_place_up_to(&self, o: u32) -> Index
+        ensures place { result.at
             ≡ (if nat_lt (offset_in self.now (length self.now.asked.state.text)) o
             then length self.now.asked.state.text + 1
             else place_before self.now.unit self.now.asked.state.text o) }
-        ensures past { IsPlaceUpTo self.now.unit self.now.asked.state.text o result }
+        ensures past { IsPlaceUpTo self.now.unit self.now.asked.state.text o result.at }
+        ensures known { IsTrue result.whole → IsKnown self.now.unit self.now.asked.state.text
+            (record { at = result.at; offset = o }) }
     {
-        if o > self.units() {
-            return self.asked.text().len() + 1;
+        let text = self.asked.text();
+        let len = text.len();
+        let index = text.index(self.unit, o);
+        if index.whole {
+            return index;
         }
-        self.asked.text().index(self.unit, o).at
+        if index.at < len {
+            return index;
+        }
+        Index {
+            at: len + 1,
+            whole: false,
+        }
     }
 
     /// The first place that doesn't lie before a number, and whether it lies there; a place past
@@ -111,13 +163,8 @@ impl<'a, T: UnitText> UnitSession<'a, T> {
         ensures { IsPlaceFrom self.now.unit self.now.asked.state.text o result }
     {
         let text = self.asked.text();
-        let len = text.len();
-        if o > self.units() {
-            return Index {
-                at: len + 1,
-                whole: false,
-            };
-        }
+        // That places are small is known of the text's length.
+        let _short = text.len();
         let index = text.index(self.unit, o);
         if index.whole {
             return index;

@@ -1,6 +1,7 @@
 //! The questions and edits of a session whose places count a unit.
 ghost use Rattle.rbbi_session.specs.Walks.{Cover, ListsArePaid, Recall};
 
+use crate::known::offset_found;
 use crate::{UnitEditErr, UnitSession, Walk};
 use rbbi_text::{EditErr, Steps, UnitText};
 use std::sync::ledger::Ledger;
@@ -24,7 +25,8 @@ impl<T: UnitText> Walk for UnitSession<'_, T> {
     }
 
     fn current(&self) -> u32 {
-        self.asked.text().offset(self.unit, self.asked.current())
+        let _here = self.asked.current();
+        self.offset
     }
 
     fn status_list(&self) -> &[u32] {
@@ -35,45 +37,52 @@ impl<T: UnitText> Walk for UnitSession<'_, T> {
 
     fn first(&mut self) -> u32 {
         let _here = self.asked.current();
+        self.offset = 0;
         self.asked.first()
     }
 
     fn last<L: Ledger>(&mut self, steps: &mut Steps<L>) -> u32 {
-        let _here = self.asked.current();
+        let known = self.here();
         self.asked.last(steps);
-        self.current()
+        self.offset = known.offset_of_cursor(&self.asked, self.unit);
+        self.offset
     }
 
     fn next<L: Ledger>(&mut self, steps: &mut Steps<L>) -> Option<u32> {
-        let _here = self.asked.current();
+        let known = self.here();
         let place = self.asked.next(steps);
-        self.place_found(place)
+        self.offset = known.offset_of_cursor(&self.asked, self.unit);
+        offset_found(place, self.offset)
     }
 
     fn previous<L: Ledger>(&mut self, steps: &mut Steps<L>) -> Option<u32> {
-        let _here = self.asked.current();
+        let known = self.here();
         let place = self.asked.previous(steps);
-        self.place_found(place)
+        self.offset = known.offset_of_cursor(&self.asked, self.unit);
+        offset_found(place, self.offset)
     }
 
     fn following<L: Ledger>(&mut self, o: u32, steps: &mut Steps<L>) -> Option<u32> {
-        let _here = self.asked.current();
         let from = self.last_place_up_to(o);
-        let place = self.asked.following(from, steps);
-        self.place_found(place)
+        let known = self.known(from, o);
+        let place = self.asked.following(from.at, steps);
+        self.offset = known.offset_of_cursor(&self.asked, self.unit);
+        offset_found(place, self.offset)
     }
 
     fn preceding<L: Ledger>(&mut self, o: u32, steps: &mut Steps<L>) -> Option<u32> {
-        let _here = self.asked.current();
         let from = self.first_place_from(o);
+        let known = self.known(from, o);
         let place = self.asked.preceding(from.at, steps);
-        self.place_found(place)
+        self.offset = known.offset_of_cursor(&self.asked, self.unit);
+        offset_found(place, self.offset)
     }
 
     fn is_boundary<L: Ledger>(&mut self, o: u32, steps: &mut Steps<L>) -> bool {
-        let _here = self.asked.current();
         let place = self.first_place_from(o);
+        let known = self.known(place, o);
         let is = self.asked.is_boundary(place.at, steps);
+        self.offset = known.offset_of_cursor(&self.asked, self.unit);
         if !place.whole {
             return false;
         }
@@ -103,7 +112,10 @@ impl<T: UnitText> Walk for UnitSession<'_, T> {
             .asked
             .replace(first.at, end.at.saturating_sub(first.at), insert, steps)
         {
-            Ok(()) => Ok(()),
+            Ok(()) => {
+                self.offset = 0;
+                Ok(())
+            }
             Err(EditErr::Outside) => Err(UnitEditErr::Outside),
             Err(EditErr::TooLong) => Err(UnitEditErr::TooLong),
             Err(EditErr::Memory) => Err(UnitEditErr::Memory),

@@ -9,3 +9,4 @@ pub mod MilestoneLemmas
 pub mod Even
 mod Digits
 mod AsciiTexts
+mod Between

@@ -1,8 +1,8 @@
 -- Milestones of lists: what stands at one, and what becomes of them when the list changes.
 use Rattle.std.proofs.Common.{◌≡◌, ℕ, zero, suc, ◌+◌, ◌-◌, ◌*◌, ◌/◌, ◌<◌, ◌≤◌, List, [], ◌∷◌, ◌++◌, length, get_or, set, take, drop, sum_by, min, refl, sym, ap}
-use Rattle.std.proofs.Common.{◌∙◌, arith, ⊎_elim, length-append, length-take, length-drop, length-set, ◌⊎◌, true, cond, ltb, eqb, subst}
+use Rattle.std.proofs.Common.{◌∙◌, arith, ⊎_elim, length-append, length-take, length-drop, length-set, ◌⊎◌, cond, leb, ltb, eqb, subst}
 use Rattle.std.specs.List.{slice_range, splice}
-use Rattle.std.proofs.lemmas.Bool.{cases_lt, cond_both, eqb-true, eq-eqb}
+use Rattle.std.proofs.lemmas.Bool.{cases_lt, cond_both, eqb-true, eq-eqb, leb-true, le-leb}
 use Rattle.std.proofs.lemmas.List.{get_or-take, get_or_append_left, get_or-append_right, take-take, take_all, get_or_read, get_or-set_same}
 use Rattle.std.proofs.lemmas.List.{take-set-le, get_or-map, get_or-drop, length-map, take_at, drop_at}
 use Rattle.std.proofs.lemmas.List.Sums.{sum_by_more, sum_by_more_le, sum_by-append, sum_by-take-le, sum_by-take-drop, sum_by-set, sum_by-cons}
@@ -200,14 +200,14 @@ index_is unit x o count units fit = record {
 }
 
 -- by characters, an offset is a place
-pub index_of_chars : (x : List ℕ) (o : ℕ) → o ≤ sum_by (size_of Chars) (take (length x) x) → IsIndex Chars x o (record { at = o; whole = true })
-index_of_chars x o within =
-    let inside : o ≤ length x = omega (arith, within, sum_ones (take (length x) x), length-take (length x) x) in
+pub index_of_chars : (x : List ℕ) (o : ℕ) → IsIndex Chars x o (record { at = min o (length x); whole = leb o (length x) })
+index_of_chars x o =
+    let at : sum_by (size_of Chars) (take (min o (length x)) x) ≡ min o (length x) = offset_of_chars x (min o (length x)) (omega arith) in
     record {
-      within = inside;
-      before = omega (arith, sum_ones (take o x), length-take o x);
-      greatest = λ i fits low. omega (arith, low, sum_ones (take i x), length-take i x, fits);
-      whole = (λ is. omega (arith, sum_ones (take o x), length-take o x, inside), λ is. refl);
+      within = omega arith;
+      before = omega (arith, at);
+      greatest = λ i fits low. omega (arith, low, offset_of_chars x i fits, fits);
+      whole = (λ is. let low = leb-true o (length x) is in omega (arith, at, low), λ is. le-leb o (length x) (omega (arith, at, is)));
     }
 
 -- a part of a list takes little

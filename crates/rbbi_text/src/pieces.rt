@@ -418,7 +418,10 @@ impl UnitText for Pieces {
 
     fn index(&self, unit: Unit, o: u32) -> Index {
         match unit {
-            Unit::Chars => Index { at: o, whole: true },
+            Unit::Chars => Index {
+                at: o.min(self.len),
+                whole: o <= self.len,
+            },
             Unit::Utf8 | Unit::Utf16 => {
                 let sums = self.milestones.sums_in(unit);
                 index_in(&self.pieces, &self.starts, sums, unit, o)

@@ -1,17 +1,21 @@
-use Rattle.std.proofs.Common.{◌∙◌, ap, subst, chars}
-use Rattle.rbbi_model.specs.Tables.{Table}
-use Rattle.rbbi_session.specs.UnitSessions.{UnitSession}
-use Rattle.rbbi_session.specs.UnitWalks.{UnitSetting}
-use Rattle.rbbi_session.specs.Pausing.{IsPausedBy}
-use Rattle.rbbi_c.proofs.Desks.{resumed-as, edited-keeps}
+use Rattle.std.proofs.Common.{chars}
+use Rattle.rbbi_session.specs.Walks.{Edits}
+use Rattle.rbbi_session.specs.UnitWalks.{unit_view}
+use Rattle.rbbi_c.proofs.Desks.{desk-to-desk, desk_keeps, edited-keeps}
 use Rattle.rbbi_c.proofs.desk.Desk.replace.Goals as goal
 
-pub invariant_of-desk : goal.invariant_of-desk
-invariant_of-desk g c =
-    let was = resumed-as c.self.inside.unit c.self.inside.paused c.table.ensures c.resume-session.ensures in
-    let kept = edited-keeps c.resume-session.result c.args.at c.args.remove (chars c.args.insert.now) c.replace-edited.result c.replace-edited.new.self
-    c.args.steps.now c.replace-edited.new.steps c.replace-edited.ensures in (
-      subst (λ (t : Table). IsPausedBy t c.pause-paused.result) (ap (λ (s : UnitSetting). s.table) kept ∙ ap (λ (s : UnitSession). s.asked.table) was)
-          c.pause-paused.ensures.by_table,
-      c.self.invariant.1,
-    )
+pub invariant_of-self : goal.invariant_of-self
+invariant_of-self g c =
+    let kept = edited-keeps c.resume_in-session.result c.args.at c.args.remove (chars c.args.insert.now) c.replace-edited.result c.replace-edited.new.self
+    c.args.steps.now c.replace-edited.new.steps c.replace-edited.ensures in
+    let keeps = desk_keeps c.self.inside.unit c.self.inside.paused c.pause.result c.resume_in-session.ensures kept c.pause.ensures c.current.result
+    c.current.ensures.at in
+    (keeps.0, (keeps.1, c.self.invariant.2))
+
+pub returns : goal.returns
+returns g c =
+    let kept = edited-keeps c.resume_in-session.result c.args.at c.args.remove (chars c.args.insert.now) c.replace-edited.result c.replace-edited.new.self
+    c.args.steps.now c.replace-edited.new.steps c.replace-edited.ensures in
+    desk-to-desk c.self.inside.unit c.self.inside.paused c.pause.result c.resume_in-session.ensures kept c.pause.ensures
+    (λ old new. Edits unit_view old c.args.at c.args.remove (chars c.args.insert.now) c.replace-edited.result new c.args.steps.now c.replace-edited.new.steps)
+    c.self.view_is c.replace-edited.ensures

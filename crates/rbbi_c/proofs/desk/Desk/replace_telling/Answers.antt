@@ -1,18 +1,33 @@
-use Rattle.std.proofs.Common.{◌∙◌, ap, subst, chars}
-use Rattle.rbbi_model.specs.Tables.{Table}
-use Rattle.rbbi_session.specs.UnitSessions.{UnitSession}
-use Rattle.rbbi_session.specs.UnitWalks.{UnitSetting}
-use Rattle.rbbi_session.specs.Pausing.{IsPausedBy}
-use Rattle.rbbi_c.proofs.Desks.{resumed-as, edited-keeps}
+use Rattle.std.proofs.Common.{◌≡◌, ◌∙◌, chars}
+use Rattle.std.specs.Prelude.{MatchResult}
+use Rattle.rbbi_c.specs.Changing.{IsToldChange}
+use Rattle.rbbi_c.specs.inner.Removing.{IsEditOf}
+use Rattle.rbbi_c.proofs.Desks.{desk-to-desk, desk_keeps, edited-keeps}
 use Rattle.rbbi_c.proofs.desk.Desk.replace_telling.Goals as goal
 
-pub invariant_of-desk : goal.invariant_of-desk
-invariant_of-desk g c =
-    let was = resumed-as c.self.inside.unit c.self.inside.paused c.table.ensures c.resume-session.ensures in
+pub invariant_of-self : goal.invariant_of-self
+invariant_of-self g c =
     let is = c.replace_telling-edited.ensures.edits in
-    let kept = edited-keeps c.resume-session.result c.args.at c.args.remove (chars c.args.insert.now) c.replace_telling-edited.result
-    c.replace_telling-edited.new.session is.before is.after is.edits in (
-      subst (λ (t : Table). IsPausedBy t c.pause-paused.result) (ap (λ (s : UnitSetting). s.table) kept ∙ ap (λ (s : UnitSession). s.asked.table) was)
-          c.pause-paused.ensures.by_table,
-      c.replace_telling-edited.ensures.fit ∙ c.self.invariant.1,
-    )
+    let kept = edited-keeps c.resume_in-session.result c.args.at c.args.remove (chars c.args.insert.now) c.replace_telling-edited.result
+    c.replace_telling-edited.new.session is.before is.after is.edits in
+    let keeps = desk_keeps c.self.inside.unit c.self.inside.paused c.pause.result c.resume_in-session.ensures kept c.pause.ensures c.current.result
+    c.current.ensures.at in
+    (keeps.0, (keeps.1, c.replace_telling-edited.ensures.fit ∙ c.self.invariant.2))
+
+pub returns-clause-edits : goal.returns-clause-edits
+returns-clause-edits g c =
+    let is = c.replace_telling-edited.ensures.edits in
+    let kept = edited-keeps c.resume_in-session.result c.args.at c.args.remove (chars c.args.insert.now) c.replace_telling-edited.result
+    c.replace_telling-edited.new.session is.before is.after is.edits in
+    desk-to-desk c.self.inside.unit c.self.inside.paused c.pause.result c.resume_in-session.ensures kept c.pause.ensures
+    (λ old new. IsEditOf old c.args.at c.args.remove (chars c.args.insert.now) c.replace_telling-edited.result new) c.self.view_is is
+
+pub returns-clause-told : goal.returns-clause-told
+returns-clause-told g c =
+    let is = c.replace_telling-edited.ensures.edits in
+    let kept = edited-keeps c.resume_in-session.result c.args.at c.args.remove (chars c.args.insert.now) c.replace_telling-edited.result
+    c.replace_telling-edited.new.session is.before is.after is.edits in
+    desk-to-desk c.self.inside.unit c.self.inside.paused c.pause.result c.resume_in-session.ensures kept c.pause.ensures
+    (λ old new. MatchResult c.replace_telling-edited.result
+    (λ _. IsToldChange old new c.args.at c.args.remove (chars c.args.insert.now) c.replace_telling-edited.new.change)
+    (λ _. c.replace_telling-edited.new.change ≡ c.args.change.now)) c.self.view_is c.replace_telling-edited.ensures.told

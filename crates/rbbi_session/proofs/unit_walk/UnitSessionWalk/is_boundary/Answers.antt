@@ -5,7 +5,7 @@ use Rattle.rbbi_session.specs.UnitSessions.{UnitSession}
 use Rattle.rbbi_session.specs.Walks.{IsAnswered}
 use Rattle.rbbi_session.specs.UnitWalks.{unit_view}
 use Rattle.rbbi_session.specs.inner.UnitPlaces.{IsPlaceFrom}
-use Rattle.rbbi_session.proofs.UnitAnswering.{at_view, here_within, not_true, not_false, unit_whether}
+use Rattle.rbbi_session.proofs.UnitAnswering.{at_view, low_in, known_on, not_true, not_false, unit_whether}
 use Rattle.rbbi_session.proofs.unit_walk.UnitSessionWalk.is_boundary.Goals as goal
 
 pub returns-then-not-place : goal.returns-then-not-place
@@ -18,7 +18,7 @@ returns-then-not-place g c =
     (subst (λ w. IsAnswered unit_view before (IsBoundary c.args.o) (cond w (test_reply c.is_boundary-is.result) No) after c.args.steps.now
     c.is_boundary-is.new.steps) (not_true c.first_place_from-place.result.whole c.if-not-place.true)
     (unit_whether before after _ _ refl
-    (here_within c.self.inside.asked c.current-here.result c.current-here.ensures.answer c.current-here.ensures.boundary)
+    (low_in c.self.view_is c.known-known.ensures.low)
     c.args.o c.first_place_from-place.result c.is_boundary-is.result place c.is_boundary-is.ensures.answers c.is_boundary-is.ensures.reads))
 
 pub returns : goal.returns
@@ -31,5 +31,8 @@ returns g c =
     (subst (λ w. IsAnswered unit_view before (IsBoundary c.args.o) (cond w (test_reply c.is_boundary-is.result) No) after c.args.steps.now
     c.is_boundary-is.new.steps) (not_false c.first_place_from-place.result.whole c.if-not-place.false)
     (unit_whether before after _ _ refl
-    (here_within c.self.inside.asked c.current-here.result c.current-here.ensures.answer c.current-here.ensures.boundary)
+    (low_in c.self.view_is c.known-known.ensures.low)
     c.args.o c.first_place_from-place.result c.is_boundary-is.result place c.is_boundary-is.ensures.answers c.is_boundary-is.ensures.reads))
+
+pub offset_of_cursor-self-inside-requires : goal.offset_of_cursor-self-inside-requires
+offset_of_cursor-self-inside-requires g c = known_on c.self.view_is c.known-known.ensures.known c.is_boundary-is.ensures.answers.moved

@@ -1,7 +1,7 @@
 use Rattle.std.proofs.Common.{refl, sym, subst}
 use Rattle.rbbi_session.specs.UnitSessions.{UnitSession}
 use Rattle.rbbi_session.specs.inner.UnitPlaces.{IsPlaceFrom}
-use Rattle.rbbi_session.proofs.UnitAnswering.{at_view, here_within, unit_preceding}
+use Rattle.rbbi_session.proofs.UnitAnswering.{at_view, low_in, known_on, found_at, unit_preceding}
 use Rattle.rbbi_session.proofs.unit_walk.UnitSessionWalk.preceding.Goals as goal
 
 pub returns : goal.returns
@@ -12,6 +12,9 @@ returns g c =
     c.first_place_from-from.ensures in
     at_view c.self.view_is
     (unit_preceding before after _ _ refl
-    (here_within c.self.inside.asked c.current-here.result c.current-here.ensures.answer c.current-here.ensures.boundary)
-    c.args.o c.first_place_from-from.result c.preceding-place.result c.place_found.result place c.preceding-place.ensures.answers
-    c.preceding-place.ensures.reads c.place_found.ensures)
+    (low_in c.self.view_is c.known-known.ensures.low)
+    c.args.o c.first_place_from-from.result c.preceding-place.result c.offset_found.result place c.preceding-place.ensures.answers
+    c.preceding-place.ensures.reads (found_at _ _ c.offset_of_cursor-self-inside.ensures c.offset_found.ensures))
+
+pub offset_of_cursor-self-inside-requires : goal.offset_of_cursor-self-inside-requires
+offset_of_cursor-self-inside-requires g c = known_on c.self.view_is c.known-known.ensures.known c.preceding-place.ensures.answers.moved

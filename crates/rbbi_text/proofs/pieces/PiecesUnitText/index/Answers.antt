@@ -1,6 +1,5 @@
-use Rattle.std.proofs.Common.{◌≤◌, true, ℕ, List, length, take, sum_by, sym, subst}
-use Rattle.rbbi_model.specs.declared.unit.Unit.{Unit as TextUnit}
-use Rattle.rbbi_model.specs.Units.{size_of}
+use Rattle.std.proofs.Common.{◌≡◌, ℕ, List, length, leb, min, sym, ap, ◌∙◌, subst}
+use Rattle.rbbi_model.specs.declared.unit.Unit.TheVariants.{Chars}
 use Rattle.rbbi_text.specs.Indexes.{IsIndex}
 use Rattle.rbbi_text.specs.Milestones.{AreMilestones}
 use Rattle.rbbi_text.specs.Weighed.{weight_of}
@@ -11,8 +10,10 @@ pub returns-in-Chars : goal.returns-in-Chars
 returns-in-Chars c =
     let x : List ℕ = c.args.self.now in
     let o : ℕ = c.args.o in
-    let P : TextUnit → Type 0 = λ u. o ≤ sum_by (size_of u) (take (length x) x) → IsIndex u x o (record { at = o; whole = true }) in
-    subst P (sym c.in-Chars.is) (index_of_chars x o) c.requires
+    let long : c.self.inside.len ≡ length x = c.self.invariant.0.long ∙ ap length c.self.view_is in
+    subst (λ u. IsIndex u x o (record { at = c.min.result; whole = leb o c.self.inside.len })) (sym c.in-Chars.is)
+    (subst (λ n. IsIndex Chars x o (record { at = n; whole = leb o c.self.inside.len })) (sym c.min.ensures)
+    (subst (λ n. IsIndex Chars x o (record { at = min o n; whole = leb o n })) (sym long) (index_of_chars x o)))
 
 pub index_in-requires-clause-sums : goal.index_in-requires-clause-sums
 index_in-requires-clause-sums c =

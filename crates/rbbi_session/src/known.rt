@@ -1,0 +1,38 @@
+//! Places whose offsets are known, and the offset of the cursor by them.
+ghost use Rattle.std.specs.Prelude.{◌≡◌, None, Some, MatchOption};
+ghost use Rattle.rbbi_model.specs.Units.{offset_of};
+ghost use Rattle.rbbi_session.specs.inner.UnitPlaces.{IsKnown};
+
+use crate::Session;
+use rbbi_text::{Unit, UnitText};
+
+/// A place whose offset is known.
+#[derive(Clone, Copy, Debug)]
+pub(crate) struct Known {
+    /// The place, in characters from 0.
+    pub(crate) at: u32,
+    /// Where it lies in the unit.
+    pub(crate) offset: u32,
+}
+
+impl Known {
+    /// Where the cursor of a session by characters lies: counted from this place, where it is near.
+    pub(crate) fn offset_of_cursor<T: UnitText>(self, asked: &Session<'_, T>, unit: Unit) -> u32
+        requires { IsKnown unit asked.now.state.text self }
+        ensures { result ≡ offset_of unit asked.now.state.text asked.now.state.cursor }
+    {
+        asked
+            .text()
+            .offset_from(unit, self.at, self.offset, asked.current())
+    }
+}
+
+/// The offset of a place, where one was found.
+pub(crate) fn offset_found(place: Option<u32>, offset: u32) -> Option<u32>
+    ensures { MatchOption place (result ≡ None) (λ _. result ≡ Some offset) }
+{
+    match place {
+        Some(_) => Some(offset),
+        None => None,
+    }
+}
