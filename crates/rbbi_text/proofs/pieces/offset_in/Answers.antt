@@ -1,9 +1,8 @@
-use Rattle.std.proofs.Common.{◌≡◌, ℕ, ◌+◌, ◌-◌, ◌<◌, List, [], get_or, take, sum_by, refl, ap, ◌∙◌, arith}
+use Rattle.std.proofs.Common.{◌≡◌, ℕ, ◌-◌, List, [], get_or, take, sum_by, refl, ap, ◌∙◌, arith}
 use Rattle.std.proofs.lemmas.List.{get_or_read}
 use Rattle.std.proofs.lemmas.List.Sums.{sum_by-take-le}
 use Rattle.rbbi_model.specs.Units.{size_of}
 use Rattle.rbbi_model.specs.Spelling.{joined}
-use Rattle.rbbi_text.specs.Weighed.{weight_of}
 use Rattle.rbbi_text.proofs.MilestoneLemmas.{pieces_small, text_small, offset_found}
 use Rattle.rbbi_text.proofs.pieces.offset_in.Goals as goal
 

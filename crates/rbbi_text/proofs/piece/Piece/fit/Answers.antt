@@ -1,5 +1,4 @@
-use Rattle.std.proofs.Common.{◌≡◌, length, sum_by, ap, arith}
-use Rattle.rbbi_model.specs.Units.{size_of}
+use Rattle.std.proofs.Common.{length, ap, arith}
 use Rattle.rbbi_text.proofs.Even.{even_fit}
 use Rattle.rbbi_text.proofs.piece.Piece.fit.Goals as goal
 
