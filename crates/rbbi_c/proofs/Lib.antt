@@ -9,3 +9,4 @@ pub mod Segments
 pub mod Spelled
 pub mod Compiled
 pub mod Telling
+pub mod Stretched

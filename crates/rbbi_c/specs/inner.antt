@@ -3,3 +3,4 @@ pub mod Bounds
 pub mod Desks
 pub mod Lending
 pub mod Removing
+pub mod Stretches

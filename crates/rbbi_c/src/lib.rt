@@ -11,6 +11,7 @@ mod copying;
 mod desk;
 mod faults;
 mod forking;
+mod greatest;
 mod handle;
 mod held;
 mod lending;
@@ -27,6 +28,7 @@ mod rules;
 mod segment;
 mod sessions;
 mod shared;
+mod stretch;
 mod tables;
 #[cfg(test)]
 mod tests;

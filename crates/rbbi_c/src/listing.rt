@@ -10,10 +10,11 @@ ghost use Rattle.rbbi_c.specs.inner.Bounds.{HasSameText, HasSameState, AreBounds
 ghost use Rattle.rbbi_c.specs.inner.Bounds.{listed_from};
 
 use crate::bounds::{
-    Bound, find_before, find_past, go_back, next_bound, no_earlier, no_later, place_from,
-    place_up_to,
+    Bound, find_before, find_past, go_back, no_earlier, no_later, place_from, place_up_to,
 };
 use crate::copying::write_at;
+use crate::greatest::Greatest;
+use crate::stretch::{Stretch, next_on};
 use rbbi_session::Session;
 use rbbi_table::{FrontPlaces, Table};
 use rbbi_text::{Chars, Pieces, Steps, Unit, UnitText};
@@ -52,6 +53,8 @@ fn list_on<L: Ledger>(
         (columns places.old statuses.old) (columns places.new statuses.new) result }
     ensures fit { marks.new ≡ marks.old }
 {
+    let greatest = Greatest::of(table);
+    let mut stretch = Stretch::around(text, 0);
     let mut next = first;
     let mut count = 0;
     let mut resume = from;
@@ -77,7 +80,17 @@ fn list_on<L: Ledger>(
         write_at(statuses, count, bound.status);
         count += 1;
         resume = bound.offset;
-        next = no_later(next_bound(table, text, unit, bound, marks, steps), last);
+        let found = next_on(
+            table,
+            text,
+            unit,
+            bound,
+            &mut stretch,
+            &greatest,
+            marks,
+            steps,
+        );
+        next = no_later(found, last);
     }
 }
 

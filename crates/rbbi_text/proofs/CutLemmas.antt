@@ -6,12 +6,13 @@ use Rattle.std.specs.Prelude.{Bool, true, false, MatchBool}
 use Rattle.std.proofs.lemmas.Bool.{cases_lt, false≢true}
 use Rattle.std.proofs.lemmas.List.{take-append-drop, drop_more, drop_all, take_at, drop_at, get_or-append_right, get_or_read}
 use Rattle.std.proofs.lemmas.List.{get_or_append_left, get_or-drop, get_or-take, get_or-map, ext_get_or, length-map, set_split, take_more, length-take-le}
-use Rattle.rbbi_model.specs.Words.{IsText, most_characters}
+use Rattle.rbbi_model.specs.Words.{IsCharacter, IsText, most_characters}
 use Rattle.rbbi_model.specs.Spelling.{joined}
 use Rattle.rbbi_model.specs.Scripts.{splice}
-use Rattle.rbbi_model.proofs.Lists.{all_append}
+use Rattle.rbbi_model.proofs.Lists.{all_append, all_left, all_right}
 use Rattle.rbbi_text.specs.Cuts.{starts_from, IsFilled, AreFilled, ArePieces, AreCut}
 use Rattle.rbbi_text.specs.Excerpts.{IsExcerptOf}
+use Rattle.rbbi_text.specs.Texts.{IsShortText}
 use Rattle.rbbi_text.specs.inner.Cuts.{AreSoFar, HaveRoom, IsIn, shifted, pieces_with, starts_with_new, edited_piece, AreWholeCut, IsFound, IsMiddle}
 use Rattle.rbbi_text.proofs.Splices.{length-splice, text-splice}
 
@@ -452,6 +453,15 @@ piece_excerpt ps starts k place piece cut found is =
           ∙ sym (character_in ps k (start + j) found.within (omega arith) inside ∙ ap (λ (n : ℕ). get_or (get_or ps k []) n 0) behind)
           ∙ ap (λ (n : ℕ). get_or (joined ps) (n + j) 0) (sym from);
     }
+
+-- and a text
+pub piece_text : (ps : List (List ℕ)) (k : ℕ) → ArePieces ps → k < length ps → IsShortText (get_or ps k [])
+piece_text ps k pieces short = (
+  all_left IsCharacter (get_or ps k []) (joined (drop (k + 1) ps))
+      (subst IsText (piece_at ps k short)
+      (all_right IsCharacter (joined (take k ps)) (joined (drop k ps)) (subst IsText (parted ps k) pieces.text.0))),
+  omega (arith, filled_small ps k pieces.filled),
+)
 
 -- starts after an edit
 pub behind_start : (ps : List (List ℕ)) (starts : List ℕ) (past removed : ℕ) → AreWholeCut ps starts → removed ≤ length (joined (take past ps)) →

@@ -1,8 +1,9 @@
 //! How much of a unit characters and pieces of a text take.
-ghost use Rattle.std.specs.Prelude.{◌≡◌, ◌<◌, ◌^◌, ℕ, sum_by};
+ghost use Rattle.std.specs.Prelude.{◌≡◌, ◌+◌, ◌<◌, ◌≤◌, ◌^◌, ℕ, length, sum_by};
 ghost use Rattle.rbbi_model.specs.declared.unit.Unit.{Unit as TextUnit};
 ghost use Rattle.rbbi_model.specs.declared.unit.Unit.TheVariants.{Utf8};
-ghost use Rattle.rbbi_model.specs.Units.{size_of};
+ghost use Rattle.rbbi_model.specs.Units.{size_of, offset_of};
+ghost use Rattle.rbbi_model.specs.Words.{most_characters};
 ghost use Rattle.rbbi_text.specs.inner.Fits.{IsFit};
 
 use crate::Unit;
@@ -68,6 +69,17 @@ pub(crate) fn taken(items: &[char], unit: Unit) -> u32
         Unit::Utf8 => total(items, Unit::Utf8),
         Unit::Utf16 => total(items, Unit::Utf16),
     }
+}
+
+/// How much of a unit the characters from one number to another take together.
+pub(crate) fn taken_between(items: &[char], unit: Unit, from: u32, to: u32) -> u32
+    requires forward { from ≤ to }
+    requires within { to ≤ length items.now }
+    requires few { length items.now ≤ most_characters }
+    ensures sum { offset_of unit items.now from + result ≡ offset_of unit items.now to }
+    ensures small { offset_of unit items.now to < 2 ^ 32 }
+{
+    taken(&items[from as usize..to as usize], unit)
 }
 
 /// How many items fit, and how much of the unit they take together.

@@ -1,55 +1,9 @@
 //! Texts with a stretch of their characters at hand.
-ghost use Rattle.std.specs.Prelude.{◌≡◌, ◌+◌, ◌<◌, ◌≤◌, ℕ, List, length, slice_index, ⊤};
-ghost use Rattle.std.specs.Prelude.{MatchOption, []};
-ghost use Rattle.rbbi_text.specs.Excerpts.{IsExcerptOf};
+ghost use Rattle.std.specs.Prelude.{◌≡◌, ◌≤◌, length};
 
-use crate::{Chars, Steps};
+use crate::{Chars, Excerpt, Steps};
 use std::marker::Model;
 use std::sync::ledger::Ledger;
-
-/// Characters of a text that stand next to each other. Only a [`Near`] gives them.
-#[derive(Drop)]
-pub struct Excerpt<'a> {
-    pub(crate) from: u32,
-    pub(crate) items: &'a [char],
-}
-
-impl<'a> Model for Excerpt<'a> {
-    ghost use Rattle.rbbi_text.specs.Excerpts.{Excerpt};
-
-    ghost Value = { Excerpt };
-
-    ghost view = { λ excerpt. record { from = excerpt.from; items = excerpt.items.now } };
-}
-
-impl<'a> Excerpt<'a> {
-    /// No characters, which every text has.
-    pub fn none() -> Excerpt<'a>
-        ensures { (x : List ℕ) → IsExcerptOf x result }
-    {
-        Excerpt {
-            from: 0,
-            items: &[],
-        }
-    }
-
-    /// The character at a place of the text, if it is one of these.
-    #[inline(always)]
-    fn get(&self, i: u32) -> Option<char>
-        ensures { (x : List ℕ) → IsExcerptOf x self.now →
-            MatchOption result ⊤ (λ c. c ≡ slice_index x i) }
-    {
-        if i < self.from {
-            return None;
-        }
-        let k = (i - self.from) as usize;
-        if k < self.items.len() {
-            Some(self.items[k])
-        } else {
-            None
-        }
-    }
-}
 
 /// A text with an excerpt of it at hand. It has the same characters, and those of the excerpt are
 /// found in fewer instructions. It takes no memory.

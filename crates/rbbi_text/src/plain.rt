@@ -9,7 +9,7 @@ ghost use Rattle.rbbi_text.specs.Answers.{TakesText, ReadsText, ChecksEdit};
 ghost use Rattle.rbbi_model.specs.Units.{offset_of};
 
 use crate::ascii::is_ascii;
-use crate::measure::{fit_characters, taken};
+use crate::measure::{fit_characters, taken, taken_between};
 use crate::{
     Chars, EditErr, EditText, Excerpt, FlatText, Index, Raw, RawErr, Steps, TextErr, Unit, UnitText,
 };
@@ -151,7 +151,7 @@ impl PlainText {
         ensures sum { offset_of unit self.now from + result ≡ offset_of unit self.now to }
         ensures small { offset_of unit self.now to < 2 ^ 32 }
     {
-        taken(&self.items[from as usize..to as usize], unit)
+        taken_between(&self.items, unit, from, to)
     }
 }
 

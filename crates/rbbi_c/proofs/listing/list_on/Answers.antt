@@ -24,31 +24,32 @@ more g c =
     let so_far = subst (λ (n : Option Bound). AreWritten all c.args.from before now c.boundaries.count c.boundaries.resume
     (left table unit x (past table unit x c.args.last) n)) c.in-Some.is c.boundaries.invariant.written in
     let goes_on = left_past table unit x c.args.last c.in-Some.bound.at c.no_later-next.result
-    (c.no_later-next.ensures.place ∙ ap (up_to c.args.last) c.next_bound.ensures.found.found_at) in
+    (c.no_later-next.ensures.place ∙ ap (up_to c.args.last) c.next_on-found.ensures.found.found_at) in
     written_in all c.args.from before _ _ _ _ _ _ c.write_at.ensures c.write_at-in-boundaries.ensures
     (written_on table unit x (past table unit x c.args.last) all c.args.from before now c.boundaries.count c.boundaries.resume c.in-Some.bound _ is so_far
     room goes_on)
 
 pub boundaries-init : goal.boundaries-init
-boundaries-init g c = record { fit = c.requires.fit; next = c.requires.first; written = written_none _ _ _ }
+boundaries-init g c = record { fit = c.requires.fit; stretch = c.around-stretch.ensures c.args.unit; next = c.requires.first; written = written_none _ _ _ }
 
 pub boundaries-preserved : goal.boundaries-preserved
 boundaries-preserved g c = record {
-  fit = c.next_bound.ensures.fit ∙ c.boundaries.invariant.fit;
-  next = are_kept c.args.table.now c.args.unit c.args.text.now c.next_bound.result c.no_later-next.result c.no_later-next.ensures.same
-      c.next_bound.ensures.found.are;
+  fit = c.next_on-found.ensures.fit ∙ c.boundaries.invariant.fit;
+  stretch = c.next_on-found.ensures.stretch;
+  next = are_kept c.args.table.now c.args.unit c.args.text.now c.next_on-found.result c.no_later-next.result c.no_later-next.ensures.same
+      c.next_on-found.ensures.found.are;
   written = more g c;
 }
 
 pub boundaries-smaller : goal.boundaries-smaller
 boundaries-smaller g c = fewer_left _ _ _ _ _ _ _ _ _ _ c.boundaries.invariant.written (more g c)
 
-pub next_bound-requires-clause-bound : goal.next_bound-requires-clause-bound
-next_bound-requires-clause-bound g c =
+pub next_on-found-requires-clause-bound : goal.next_on-found-requires-clause-bound
+next_on-found-requires-clause-bound g c =
     is_bound c.args.table.now c.args.unit c.args.text.now c.boundaries.next c.in-Some.bound c.in-Some.is c.boundaries.invariant.next
 
-pub next_bound-requires-clause-fit : goal.next_bound-requires-clause-fit
-next_bound-requires-clause-fit g c = c.boundaries.invariant.fit
+pub next_on-found-requires-clause-fit : goal.next_on-found-requires-clause-fit
+next_on-found-requires-clause-fit g c = c.boundaries.invariant.fit
 
 pub returns-in-None-clause-listed : goal.returns-in-None-clause-listed
 returns-in-None-clause-listed g c =

@@ -1,12 +1,20 @@
-use Rattle.std.proofs.Common.{◌≡◌, ℕ, [], get_or, ◌∙◌}
+use Rattle.std.proofs.Common.{◌≡◌, [], get_or, sym, subst, ◌∙◌}
 use Rattle.std.proofs.lemmas.List.{get_or_read}
-use Rattle.rbbi_text.proofs.CutLemmas.{piece_excerpt}
+use Rattle.rbbi_text.specs.Texts.{IsShortText}
+use Rattle.rbbi_text.proofs.CutLemmas.{piece_excerpt, piece_text}
 use Rattle.rbbi_text.proofs.places.piece_around.Goals as goal
+
+-- the characters at hand are those of the piece
+is_piece : (c : goal.After-as_slice) → c.as_slice.result.now ≡ get_or c.args.pieces.now c.locate-number.result []
+is_piece c =
+    c.as_slice.ensures
+    ∙ get_or_read c.args.pieces.now c.locate-number.result c.index-pieces-number.result c.locate-number.ensures.within c.index-pieces-number.is []
 
 pub returns : goal.returns
 returns c =
-    let k : ℕ = c.locate-number.result in
-    let same : c.index-pieces-number.result ≡ get_or c.args.pieces.now k [] =
-    get_or_read c.args.pieces.now k c.index-pieces-number.result c.locate-number.ensures.within c.index-pieces-number.is [] in
-    piece_excerpt c.args.pieces.now c.args.starts.now k c.args.place c.as_slice.result.now c.requires.cut c.locate-number.ensures
-    (c.as_slice.ensures ∙ same)
+    piece_excerpt c.args.pieces.now c.args.starts.now c.locate-number.result c.args.place c.as_slice.result.now c.requires.cut c.locate-number.ensures
+    (is_piece c)
+
+pub invariant_of-result : goal.invariant_of-result
+invariant_of-result c =
+    subst IsShortText (sym (is_piece c)) (piece_text c.args.pieces.now c.locate-number.result c.requires.cut.whole c.locate-number.ensures.within)
