@@ -1,5 +1,5 @@
 -- A part that is put behind others, where it has an entry and there is room.
-use Rattle.std.proofs.Common.{◌≡◌, ℕ, ◌+◌, ◌≤◌, false, cond, not, eqb, List, [], ◌∷◌, ◌++◌, length, length-take, take, set, sym}
+use Rattle.std.proofs.Common.{◌≡◌, ℕ, ◌≤◌, false, cond, not, eqb, List, [], ◌∷◌, ◌++◌, length, length-take, take, set, sym}
 use Rattle.std.proofs.Common.{ap, ◌∙◌, arith}
 use Rattle.std.proofs.lemmas.Bool.{cond-false, eq-eqb}
 use Rattle.std.proofs.lemmas.List.{take-set, take_all, append-nil}

@@ -1,11 +1,15 @@
 -- How the searches past a place begin, and what they leave.
-use Rattle.std.proofs.Common.{◌≡◌, ℕ, ◌+◌, ◌<◌, ◌≤◌, List, [], ◌∷◌, ◌++◌, length, length-append, drop, map, true, false, sym, refl, ap, ◌∙◌, subst, ⊎_elim}
-use Rattle.std.proofs.Common.{arith}
+use Rattle.std.proofs.Common.{◌≡◌, ◌≢◌, ℕ, ◌+◌, ◌<◌, ◌≤◌, List, [], ◌∷◌, ◌++◌, length, length-append, drop, map, true, false, sym, refl, ap, ◌∙◌, subst, ⊎_elim}
+use Rattle.std.proofs.Common.{arith, max, min, eqb, ◌-◌}
 use Rattle.std.specs.Prelude.{IsTrue}
+use Rattle.std.proofs.lemmas.Bool.{cond-false, ne_eqb}
+use Rattle.std.proofs.lemmas.List.{append-nil}
 use Rattle.rbbi_model.specs.Tables.{Table}
 use Rattle.rbbi_model.specs.ValidTables.{IsValidTable}
 use Rattle.rbbi_model.specs.Runs.{Entry, Run, boundary_of, IsTrueRun}
 use Rattle.rbbi_model.specs.Costs.{anchor_below, searches_cost}
+use Rattle.rbbi_model.specs.Searches.{found, look_end}
+use Rattle.rbbi_model.proofs.Found.{found_lies}
 use Rattle.rbbi_model.proofs.Lists.{all_right}
 use Rattle.rbbi_cache.specs.inner.Pushed.{pushed}
 use Rattle.rbbi_cache.specs.inner.Lists.{GoesOnFrom}
@@ -14,6 +18,7 @@ use Rattle.rbbi_cache.specs.Kept.{IsExtendedBy}
 use Rattle.rbbi_cache.specs.inner.Ready.{IsReadyAfter, GoesOnAs}
 use Rattle.rbbi_cache.proofs.Scanned.{scan_from_anchor, scan_from_entry}
 use Rattle.std.specs.List.{AllByRecursion}
+use Rattle.rbbi_cache.proofs.Goes.{goes_found}
 use Rattle.rbbi_cache.proofs.Nearer.{searched_path, nearer_cost}
 use Rattle.rbbi_cache.proofs.Ready.{IsAnchorBelow, anchor_is, anchored_below, ready_from_anchor, scan_cost, some_entry, is_extended, ready_extended}
 use Rattle.rbbi_cache.proofs.Ready.{ready_beside}
@@ -152,3 +157,33 @@ module _ (table : Table) (valid : IsValidTable table) (x : List ℕ) (i : ℕ) (
       λ kept among. subst (IsReadyAfter table x i kept here) (sym is) (ready_beside table valid x i former is_true from goes from_entry refl here after
           before now gone_there past kept among),
     )
+
+-- One search was made from a run's last entry, which lies at i, and the run has room for what it found.
+module _ (table : Table) (valid : IsValidTable table) (x : List ℕ) (i : ℕ) (former : Run) (is_true : IsTrueRun table x former) (room : length former.entries ≢
+    256) (from : Entry) (goes : GoesOnFrom i from former) (at_is : i ≡ from.at) (reach : ℕ) (reach_is : reach ≡ from.reach) (short : i < length x)
+    (next : Entry) (look : ℕ) (next_at : next.at ≡ (found table x i).at) (next_status : next.status ≡ (found table x i).list)
+    (look_is : look ≡ look_end table x i) (next_reach : next.reach ≡ max reach look)
+    (before now : ℕ) (read : now ≡ before + (min (look_end table x i) (length x) - i)) where
+  abbrev one : Run
+  one = record { anchor = former.anchor; entries = from ∷ []; leads = true }
+
+  past : i < next.at
+  past = omega (arith, next_at, (found_lies table x i short).0)
+
+  one_searched : ContinuesScan table x former.anchor i from one next (pushed one next) before now
+  one_searched = goes_found table x former.anchor i from one from one before before
+      (λ start is here. record { scan = start; is = is; here_is = here; known = refl; searched = []; done = sym (append-nil start.done); read = omega arith })
+      short i reach at_is reach_is (omega arith) next look next_at next_status look_is next_reach now read
+      (omega (arith, past, (anchored_below table valid x i former is_true from goes).low_is))
+
+  pub one_added : GoesOnAs table x i former next true (pushed former next) (pushed former next)
+  one_added =
+      extended_as table valid x i former is_true from goes former.anchor (record { anchor = former.anchor; entries = []; leads = true }) one refl refl refl next
+      (pushed one next) before now one_searched past refl (omega (arith, is_true.few, room)) (pushed former next)
+      (cond-false {A = Run} (eqb (length former.entries) 256) (record { anchor = former.anchor; entries = drop 128 former.entries ++ next ∷ []; leads = false })
+      (record { anchor = former.anchor; entries = former.entries ++ next ∷ []; leads = former.leads }) (ne_eqb (length former.entries) 256 room))
+
+  pub one_cost : now ≤ before + searches_cost table x (anchor_below table x i) i
+  one_cost =
+      there_cost table valid x i former is_true from goes former.anchor (record { anchor = former.anchor; entries = []; leads = true }) one refl refl refl next
+      (pushed one next) before now one_searched past (omega (arith, anchor_low table valid x i, at_is))

@@ -1,5 +1,6 @@
 -- What is kept after an answer.
 use Rattle.std.proofs.Common.{◌≡◌, ℕ, ◌+◌, ◌⊎◌, ◌-◌, ◌<◌, ◌≤◌, Bool, true, false, List, [], ◌∷◌, ◌++◌, length, map, sym, refl, ap, ◌∙◌, subst, inr, ⊎_elim, arith}
+use Rattle.std.specs.Prelude.{Option, Some, None, MatchOption}
 use Rattle.std.specs.List.{AllByRecursion}
 use Rattle.std.proofs.lemmas.List.{append-nil}
 use Rattle.rbbi_model.specs.Tables.{Table}
@@ -163,3 +164,11 @@ module _ (table : Table) (valid : IsValidTable table) (x : List ℕ) where
         let so = subst (λ b. GoesOnAs table x i run entry b goes.run spare) other goes.gone_on in
         let ready = so.1 former (record { before = before; after = after; whole = whole }) in
         entries_rise table valid x spare ready.is_true
+
+  -- What is kept after the first run was asked to take one boundary more.
+  pub keeps_stepped : (i : ℕ) (former : List Run) (are_true : AreTrueRuns table x former) (run : Run) (rest : List Run) → former ≡ run ∷ rest → (run' : Run) (now : List Run) →
+      now ≡ run' ∷ rest → (steps steps' : ℕ) (found : Option Entry) → MatchOption found ((run' ≡ run) × (steps' ≡ steps)) (λ e. GoesOnAs table x i run e true run' run') →
+      MatchOption found ((now ≡ former) × (steps' ≡ steps)) (λ e. KeepsTrue table x (λ r. IsShownAfter r i e) former now)
+  keeps_stepped i former are_true run rest whole run' now is steps steps' None same = (is ∙ ap (λ r. r ∷ rest) same.0 ∙ sym whole, same.1)
+  keeps_stepped i former are_true run rest whole run' now is steps steps' (Some e) goes =
+      keeps_gone_on i former are_true [] run rest whole e true now run' (record { run = run'; whole = is; gone_on = goes }) refl now is

@@ -1,5 +1,5 @@
 -- The kept runs as the first of the slots.
-use Rattle.std.proofs.Common.{◌≡◌, ℕ, ◌+◌, ◌<◌, ◌≤◌, List, [], ◌∷◌, ◌++◌, length, length-append, length-take, take, drop, get_or, sym, refl, ap, ◌∙◌, ⊎_elim}
+use Rattle.std.proofs.Common.{◌≡◌, ◌≢◌, ℕ, zero, suc, ◌+◌, ◌<◌, ◌≤◌, List, [], ◌∷◌, ◌++◌, length, length-append, length-take, take, drop, get_or, sym, refl, ap, ◌∙◌, ⊎_elim}
 use Rattle.std.proofs.Common.{append_assoc, arith}
 use Rattle.std.specs.Prelude.{min, slice_set}
 use Rattle.std.proofs.lemmas.List.{take-append-drop, take_all, take-take}
@@ -47,6 +47,13 @@ module _ (items : List Run) (count : ℕ) (within : count ≤ length items) (now
         at_seam : (front : List Run) → get_or (front ++ run ∷ (after ++ drop count items)) (length front) d ≡ run
         at_seam [] = refl
         at_seam (r ∷ front) = at_seam front
+
+-- the first slot has the first run
+pub first_is : (items : List Run) (count : ℕ) → count ≢ 0 → count ≤ length items → (run : Run) → run ≡ get_or items 0 run → (rest : List Run) × (take count items
+    ≡ run ∷ rest)
+first_is [] count some within run is = absurd (some (omega arith))
+first_is (r ∷ items) zero some within run is = absurd (some refl)
+first_is (r ∷ items) (suc n) some within run is = (take n items, ap (λ s. s ∷ take n items) (sym is))
 
 -- a new run stands before the first 15 of the others
 pub added_is : (items : List Run) (count : ℕ) → length items ≡ 16 → count ≤ 16 → (now slots : List Run) (run : Run) (kept : ℕ) → take count items ≡ now → take

@@ -44,6 +44,8 @@ pub struct Cache {
     /// the others needn't be asked.
     pub(crate) quiet_from: u32,
     pub(crate) quiet_to: u32,
+    /// Which entry of the first run was the last answer that was shown.
+    pub(crate) hint: usize,
 }
 
 impl Model for Cache {
@@ -69,6 +71,7 @@ impl Cache {
             marks: FrontPlaces::new(alloc, table)?,
             quiet_from: 0,
             quiet_to: 0,
+            hint: 0,
         })
     }
 
@@ -114,7 +117,9 @@ impl Cache {
         if i >= text.len() {
             return None;
         }
-        if let Some(shown) = self.find_shown(i) {
+        let mut hint = self.hint;
+        if let Some(shown) = self.find_shown(&mut hint, i) {
+            self.hint = hint;
             self.quiet_to = 0;
             self.runs.move_to_front(shown.run);
             return Some(shown.entry);
@@ -153,7 +158,9 @@ impl Cache {
             return None;
         }
         let len = text.len();
-        if let Some(shown) = find_before(self.runs.as_slice(), len, i) {
+        let mut hint = self.hint;
+        if let Some(shown) = find_before(self.runs.as_slice(), &mut hint, len, i) {
+            self.hint = hint;
             self.quiet_to = 0;
             self.runs.move_to_front(shown.run);
             return Some(shown.entry);
@@ -168,7 +175,7 @@ impl Cache {
     }
 
     /// As `find_after` for the kept runs. If no other one can show it, only the first is asked.
-    fn find_shown(&self, i: u32) -> Option<Shown>
+    fn find_shown(&self, hint: &mut usize, i: u32) -> Option<Shown>
         requires ordered { AllByRecursion (IsOrdered most_characters) self.now.runs }
         requires small { i < most_characters }
         ensures { MatchOption result
@@ -177,9 +184,9 @@ impl Cache {
     {
         let runs = self.runs.as_slice();
         if i < self.quiet_from || self.quiet_to <= i || runs.is_empty() {
-            return find_after(runs, i);
+            return find_after(runs, hint, i);
         }
-        find_after(&runs[..1], i)
+        find_after(&runs[..1], hint, i)
     }
 
     /// Notes how far from `i` on no run but the first shows a boundary, unless that is known.
@@ -217,7 +224,14 @@ impl Cache {
         ensures more { steps.old ≤ steps.new }
         ensures cost { steps.new ≤ steps.old + forward_cost table.now (T.characters text.now) i }
     {
+        table.valid();
+        // That the text is short is known of its length.
+        let _short = text.len();
         let near = Near::new(text, i);
+        if let Some(entry) = self.runs.step(table, &near, i, &mut self.marks, steps) {
+            self.mark_quiet(entry.at);
+            return entry;
+        }
         self.find_past_near(table, &near, i, steps)
     }
 
@@ -302,8 +316,6 @@ impl Cache {
             (anchor_below table.now (T.characters text.now) i) i }
     {
         table.valid();
-        // That the text is short is known of its length.
-        let _short = text.len();
         let spare = &mut self.spare;
         let marks = &mut self.marks;
         let (entry, is_kept) = self.runs.go_on(
@@ -321,12 +333,8 @@ impl Cache {
             self.runs.add(spare);
             return entry;
         }
-        if known.run > 0 {
-            self.quiet_to = 0;
-            self.runs.move_to_front(known.run);
-            return entry;
-        }
-        self.mark_quiet(entry.at);
+        self.quiet_to = 0;
+        self.runs.move_to_front(known.run);
         entry
     }
 

@@ -12,7 +12,7 @@ fn has(entries: &[Entry], entry: &Entry) -> bool
     requires { IsRising (map (λ entry. entry.at) entries.now) }
     ensures { IsTrue result ↔ Contains entries.now entry.now }
 {
-    let k = count_up_to(entries, entry.at);
+    let k = count_up_to(entries, 0, entry.at);
     if k == 0 {
         return false;
     }

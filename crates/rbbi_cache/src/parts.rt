@@ -106,7 +106,7 @@ fn copy_behind(run: &Run, edit: Edit, pair: u32, part: &mut Run)
     ensures { part.new ≡ run_behind edit.at edit.removed edit.inserted pair run.now }
 {
     restart(part, pair, false);
-    let before = count_up_to(run.entries(), edit.at + edit.removed);
+    let before = count_up_to(run.entries(), 0, edit.at + edit.removed);
     append_moved(part, &run.entries()[before..], edit, pair + 2);
 }
 

@@ -1,5 +1,6 @@
 //! The kept runs, in slots that are made once.
-ghost use Rattle.std.specs.Prelude.{◌≡◌, ℕ, ◌+◌, ◌<◌, ◌≤◌, [], ◌∷◌, ◌++◌, map, length, List, IfOk};
+ghost use Rattle.std.specs.Prelude.{◌≡◌, ℕ, ◌+◌, ◌<◌, ◌≤◌, [], ◌∷◌, ◌++◌, map, drop, length, List};
+ghost use Rattle.std.specs.Prelude.{IfOk, MatchOption};
 ghost use Rattle.rbbi_model.specs.Lists.{IsRising};
 ghost use Rattle.rbbi_model.specs.Words.{most_characters};
 ghost use Rattle.rbbi_model.specs.Runs as model;
@@ -7,12 +8,13 @@ ghost use Rattle.rbbi_model.specs.Costs.{anchor_below, searches_cost};
 ghost use Rattle.rbbi_cache.specs.Kept.{AreTrueRuns};
 ghost use Rattle.rbbi_cache.specs.inner.Kept.{IsPutFirst};
 ghost use Rattle.rbbi_cache.specs.inner.Lists.{HasAt, GoesOnFrom};
-ghost use Rattle.rbbi_cache.specs.inner.Ready.{GoesOnAt};
+ghost use Rattle.rbbi_cache.specs.inner.Ready.{GoesOnAt, KeepsTrue};
+ghost use Rattle.rbbi_cache.specs.Shown.{IsShownAfter};
 
 use crate::extended::find_extended;
 use crate::fixed::Fixed;
 use crate::runs::{MOST_RUNS, put_first, to_front};
-use crate::search::go_on;
+use crate::search::{go_on, step};
 use crate::{Entry, Run};
 use rbbi_table::{FrontPlaces, Table};
 use rbbi_text::{Chars, Steps};
@@ -96,6 +98,37 @@ impl RunList {
         let slot = self.slots.item_mut(k);
         mem::swap(slot, run);
         self.move_to_front(k);
+    }
+
+    /// Adds to the first run what one search finds from its last entry, if that lies at `i` and
+    /// there is room for one more.
+    pub(crate) fn step<T: Chars, L: Ledger>(
+        &mut self,
+        table: &Table,
+        text: &T,
+        i: u32,
+        marks: &mut FrontPlaces,
+        steps: &mut Steps<L>,
+    ) -> Option<Entry>
+        requires fit { marks.old ≡ table.now.slashes }
+        requires within { i < length (T.characters text.now) }
+        requires small { i < most_characters }
+        requires are_true { AreTrueRuns table.now (T.characters text.now) self.old }
+        ensures kept { MatchOption result ((self.new ≡ self.old) × (steps.new ≡ steps.old))
+            (λ entry. KeepsTrue table.now (T.characters text.now)
+            (λ run. IsShownAfter run i entry) self.old self.new) }
+        ensures others { drop 1 self.new ≡ drop 1 self.old }
+        ensures more { steps.old ≤ steps.new }
+        ensures cost { steps.new ≤ steps.old + searches_cost table.now (T.characters text.now)
+            (anchor_below table.now (T.characters text.now) i) i }
+        ensures fit { marks.new ≡ marks.old }
+    {
+        table.valid();
+        if self.count == 0 {
+            return None;
+        }
+        let run = self.slots.item_mut(0);
+        step(table, text, i, run, marks, steps)
     }
 
     /// Goes on from the last entry of the run with this number.

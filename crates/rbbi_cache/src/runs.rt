@@ -22,23 +22,24 @@ pub(crate) struct Shown {
     pub(crate) entry: Entry,
 }
 
-/// The first run that shows the first boundary past `i`.
-pub(crate) fn find_after(runs: &[Run], i: u32) -> Option<Shown>
+/// The first run that shows the first boundary past `i`, and as a hint the number of that.
+pub(crate) fn find_after(runs: &[Run], hint: &mut usize, i: u32) -> Option<Shown>
     requires ordered { AllByRecursion (IsOrdered most_characters) runs.now }
     requires small { i < most_characters }
     ensures { MatchOption result (AllByRecursion (λ run. (a : ℕ) → ¬ ShowsAfter run i a) runs.now)
         (λ shown. HasAt runs.now shown.run (λ run. IsShownAfter run i shown.entry)) }
 {
     for (k, run) in runs.iter().enumerate() {
-        if let Some(entry) = run.shown_after(i) {
+        if let Some(entry) = run.shown_after(hint, i) {
             return Some(Shown { run: k, entry });
         }
     }
     None
 }
 
-/// The first run that shows the last boundary before `i` in a text of this length.
-pub(crate) fn find_before(runs: &[Run], len: u32, i: u32) -> Option<Shown>
+/// The first run that shows the last boundary before `i` in a text of this length, and as a hint
+/// the number of that.
+pub(crate) fn find_before(runs: &[Run], hint: &mut usize, len: u32, i: u32) -> Option<Shown>
     requires ordered { AllByRecursion (IsOrdered len) runs.now }
     requires some { 0 < i }
     ensures { (x : List ℕ) → len ≡ length x →
@@ -46,7 +47,7 @@ pub(crate) fn find_before(runs: &[Run], len: u32, i: u32) -> Option<Shown>
         (λ shown. HasAt runs.now shown.run (λ run. IsShownBefore x run i shown.entry)) }
 {
     for (k, run) in runs.iter().enumerate() {
-        if let Some(entry) = run.shown_before(len, i) {
+        if let Some(entry) = run.shown_before(hint, len, i) {
             return Some(Shown { run: k, entry });
         }
     }

@@ -1,11 +1,12 @@
 //! What is past a place: found by searches from an anchor, or from the last entry of a kept run.
-ghost use Rattle.std.specs.Prelude.{◌≡◌, ℕ, ◌+◌, ◌<◌, ◌≤◌, length, List};
+ghost use Rattle.std.specs.Prelude.{◌≡◌, ℕ, ◌+◌, ◌<◌, ◌≤◌, true, length, List, MatchOption};
 ghost use Rattle.rbbi_model.specs.Words.{most_characters};
 ghost use Rattle.rbbi_model.specs.Runs as model;
 ghost use Rattle.rbbi_model.specs.Costs.{anchor_below, searches_cost};
 ghost use Rattle.rbbi_cache.specs.inner.Lists.{GoesOnFrom};
 ghost use Rattle.rbbi_cache.specs.inner.Ready.{IsReadyAfter, GoesOnAs};
 
+use crate::run::MOST_ENTRIES;
 use crate::scan::scan;
 use crate::{Entry, Run};
 use rbbi_table::{FrontPlaces, Table};
@@ -44,6 +45,47 @@ pub(crate) fn search<T: Chars, L: Ledger>(
         reach: 0,
     };
     scan(table, text, run, from, i, marks, steps)
+}
+
+/// Adds to a true run what one search finds from its last entry, if that lies at `i` and there is
+/// room for one more.
+pub(crate) fn step<T: Chars, L: Ledger>(
+    table: &Table,
+    text: &T,
+    i: u32,
+    run: &mut Run,
+    marks: &mut FrontPlaces,
+    steps: &mut Steps<L>,
+) -> Option<Entry>
+    requires fit { marks.old ≡ table.now.slashes }
+    requires within { i < length (T.characters text.now) }
+    requires small { i < most_characters }
+    requires is_true { model.IsTrueRun table.now (T.characters text.now) run.old }
+    ensures gone_on { MatchOption result ((run.new ≡ run.old) × (steps.new ≡ steps.old)) (λ entry.
+        GoesOnAs table.now (T.characters text.now) i run.old entry true run.new run.new) }
+    ensures more { steps.old ≤ steps.new }
+    ensures cost { steps.new ≤ steps.old + searches_cost table.now (T.characters text.now)
+        (anchor_below table.now (T.characters text.now) i) i }
+    ensures fit { marks.new ≡ marks.old }
+{
+    table.valid();
+    if run.len() == MOST_ENTRIES {
+        return None;
+    }
+    let Some(from) = run.last_up_to(i) else {
+        return None;
+    };
+    if from.at < i {
+        return None;
+    }
+    let found = table.next(text, i, marks, steps);
+    let entry = Entry {
+        at: found.at,
+        status: found.status,
+        reach: from.reach.max(found.look),
+    };
+    run.push(entry);
+    Some(entry)
 }
 
 /// Goes on from the last entry of a true run. What is found is added to the run if it has room for

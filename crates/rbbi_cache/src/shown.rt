@@ -13,8 +13,25 @@ ghost use Rattle.rbbi_cache.specs.Shown.{IsShownAfter, IsShownBefore};
 use crate::scan::low;
 use crate::{Entry, Run};
 
-/// How many of the entries, which rise, aren't past this place.
-pub(crate) fn count_up_to(entries: &[Entry], i: u32) -> usize
+/// Whether so many of the entries, which rise, aren't past this place, and some are.
+fn are_up_to(entries: &[Entry], i: u32, count: usize) -> bool
+    requires { IsRising (map (λ entry. entry.at) entries.now) }
+    ensures { IsTrue result → AreUpTo entries.now i count }
+{
+    if count == 0 || count >= entries.len() {
+        return false;
+    }
+    let last = entries[count - 1];
+    let next = entries[count];
+    if last.at > i || next.at <= i {
+        return false;
+    }
+    true
+}
+
+/// How many of the entries, which rise, aren't past this place. It is found at once where the entry
+/// with the number `hint` is the last of them or the next.
+pub(crate) fn count_up_to(entries: &[Entry], hint: usize, i: u32) -> usize
     requires { IsRising (map (λ entry. entry.at) entries.now) }
     ensures { AreUpTo entries.now i result }
 {
@@ -30,6 +47,12 @@ pub(crate) fn count_up_to(entries: &[Entry], i: u32) -> usize
     let first = entries[0];
     if first.at > i {
         return 0;
+    }
+    if hint < len && are_up_to(entries, i, hint + 1) {
+        return hint + 1;
+    }
+    if are_up_to(entries, i, hint) {
+        return hint;
     }
     let mut start = 0;
     let mut end = len;
@@ -58,8 +81,9 @@ impl Run {
         low(self.anchor()) <= i + 1
     }
 
-    /// The entry of the run that is shown to be the first boundary past `i`.
-    pub(crate) fn shown_after(&self, i: u32) -> Option<Entry>
+    /// The entry of the run that is shown to be the first boundary past `i`. Its number becomes the
+    /// hint; nothing but time rests on which it was.
+    pub(crate) fn shown_after(&self, hint: &mut usize, i: u32) -> Option<Entry>
         requires rising { IsRising (map (λ entry. entry.at) self.now.entries) }
         requires small { i < most_characters }
         requires anchor { self.now.anchor ≤ most_characters }
@@ -73,11 +97,12 @@ impl Run {
             return None;
         }
         let entries = self.entries();
-        let k = count_up_to(entries, i);
+        let k = count_up_to(entries, *hint, i);
         if k == entries.len() {
             return None;
         }
         if k > 0 {
+            *hint = k;
             return Some(entries[k]);
         }
         if self.leads_to(i) {
@@ -86,8 +111,9 @@ impl Run {
         None
     }
 
-    /// The entry that is shown to be the last boundary before `i`, in a text of this length.
-    pub(crate) fn shown_before(&self, len: u32, i: u32) -> Option<Entry>
+    /// The entry that is shown to be the last boundary before `i`, in a text of this length. Its
+    /// number becomes the hint.
+    pub(crate) fn shown_before(&self, hint: &mut usize, len: u32, i: u32) -> Option<Entry>
         requires rising { IsRising (map (λ entry. entry.at) self.now.entries) }
         requires within { AllByRecursion (λ entry. entry.at ≤ len) self.now.entries }
         requires behind { AllByRecursion (λ entry. self.now.anchor ≤ entry.at) self.now.entries }
@@ -101,12 +127,13 @@ impl Run {
             return None;
         }
         let entries = self.entries();
-        let k = count_up_to(entries, i - 1);
+        let k = count_up_to(entries, *hint, i - 1);
         if k == 0 {
             return None;
         }
         let entry = entries[k - 1];
         if k < entries.len() {
+            *hint = k - 1;
             return Some(entry);
         }
         if entry.at == len {
@@ -128,7 +155,7 @@ impl Run {
             return nearer;
         }
         let entries = self.entries();
-        let k = count_up_to(entries, i);
+        let k = count_up_to(entries, 0, i);
         if k < entries.len() {
             return 0;
         }

@@ -7,6 +7,7 @@ ghost use Rattle.rbbi_text.specs.inner.Cuts.{shifted};
 
 use crate::Unit;
 use crate::measure::{Fit, Measure, fit_in, total};
+use crate::piece::FULL;
 use crate::places::shift;
 use std::alloc::Global;
 
@@ -92,6 +93,11 @@ fn last_milestone(sums: &[u32], most: u32) -> usize
     ensures within { result ≤ length sums.now }
     ensures low { slice_index (0 ∷ sums.now) result ≤ most }
 {
+    // Mostly the items are full pieces, and each character takes one.
+    let guess = most as usize / (BETWEEN * FULL);
+    if guess < sums.len() && at_milestone(sums, guess) <= most && sums[guess] > most {
+        return guess;
+    }
     let mut low = 0;
     let mut high = sums.len();
     while low < high {

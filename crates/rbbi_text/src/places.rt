@@ -79,6 +79,9 @@ pub(crate) fn shift(starts: &mut Vec<u32>, from: usize, removed: u32, added: u32
     ensures { starts.new.items
         ≡ take from starts.old.items ++ shifted removed added (drop from starts.old.items) }
 {
+    if removed == added {
+        return;
+    }
     let moved = starts.as_mut_slice();
     for k in from..moved.len() {
         moved[k] = moved[k] - removed + added;

@@ -1,8 +1,13 @@
-use Rattle.std.proofs.Common.{◌≡◌, ◌++◌, take, drop, length, ap, ◌∙◌, subst, arith}
+use Rattle.std.proofs.Common.{◌≡◌, ◌++◌, take, drop, length, refl, ap, ◌∙◌, subst, arith}
 use Rattle.std.proofs.lemmas.List.{take_at}
 use Rattle.rbbi_text.specs.inner.Cuts.{shifted}
 use Rattle.rbbi_text.proofs.CutLemmas.{shifted_is}
 use Rattle.rbbi_text.proofs.places.shift.Goals as goal
+
+pub returns-then-removed-added : goal.returns-then-removed-added
+returns-then-removed-added c =
+    shifted_is c.args.starts.now.items c.args.starts.now.items c.args.from c.args.removed c.args.added refl c.requires.from (λ i less. refl)
+    (λ i low short. omega (arith, c.requires.behind i low short, c.if-removed-added.true))
 
 pub returns : goal.returns
 returns c =

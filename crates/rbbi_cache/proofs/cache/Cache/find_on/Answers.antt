@@ -1,8 +1,7 @@
-use Rattle.std.proofs.Common.{◌≡◌, ap, ◌∙◌, arith}
-use Rattle.rbbi_model.specs.Words.{most_characters}
+use Rattle.std.proofs.Common.{refl, ap, ◌∙◌}
 use Rattle.rbbi_cache.specs.Kept.{KeptRuns}
-use Rattle.rbbi_cache.proofs.Keeping.{keeps_gone_on, keeps_beside, beside_rises, all_ordered}
-use Rattle.rbbi_cache.proofs.RunLists.{at_front}
+use Rattle.rbbi_cache.proofs.Keeping.{keeps_gone_on, keeps_beside, beside_rises}
+use Rattle.rbbi_cache.proofs.Quieting.{none_quiet}
 use Rattle.rbbi_cache.proofs.cache.Cache.find_on.Goals as goal
 
 pub add-requires : goal.add-requires
@@ -21,30 +20,13 @@ returns-then-not-is_kept-clause-kept g c =
     at.after at.whole c.go_on-entry.result.0 c.go_on-entry.result.1 c.go_on-entry.new.self c.go_on-entry.new.spare goes
     c.if-not-is_kept.true c.add.new.self c.add.ensures
 
-pub returns-then-known-gt0-clause-kept : goal.returns-then-known-gt0-clause-kept
-returns-then-known-gt0-clause-kept g c =
-    let at = c.requires.known in
-    let goes = c.go_on-entry.ensures.gone_on at.before at.after at.run (ap (λ (s : KeptRuns). s.runs) c.self.view_is ∙ at.whole) at.number in
-    keeps_gone_on c.args.table.now c.valid.ensures (g.T.Chars.characters c.args.text.now) c.args.i c.args.self.now.runs c.requires.are_true at.before at.run
-    at.after at.whole c.go_on-entry.result.0 c.go_on-entry.result.1 c.go_on-entry.new.self c.go_on-entry.new.spare goes
-    c.if-not-is_kept.false c.move_to_front.new.self (c.move_to_front.ensures at.before at.after goes.run goes.whole at.number)
-
-pub mark_quiet-requires : goal.mark_quiet-requires
-mark_quiet-requires g c =
-    let at = c.requires.known in
-    let goes = c.go_on-entry.ensures.gone_on at.before at.after at.run (ap (λ (s : KeptRuns). s.runs) c.self.view_is ∙ at.whole) at.number in
-    let zero : c.args.known.run ≡ 0 = omega arith in
-    all_ordered c.args.table.now c.valid.ensures (g.T.Chars.characters c.args.text.now) most_characters c.len-short.ensures.most c.go_on-entry.new.self
-    (keeps_gone_on c.args.table.now c.valid.ensures (g.T.Chars.characters c.args.text.now) c.args.i c.args.self.now.runs c.requires.are_true at.before at.run
-    at.after at.whole c.go_on-entry.result.0 c.go_on-entry.result.1 c.go_on-entry.new.self c.go_on-entry.new.spare goes
-    c.if-not-is_kept.false c.go_on-entry.new.self (goes.whole ∙ at_front at.before at.after goes.run (at.number ∙ zero))).1
+pub invariant_of-self : goal.invariant_of-self
+invariant_of-self g c = none_quiet _ 0 _ refl
 
 pub returns-clause-kept : goal.returns-clause-kept
 returns-clause-kept g c =
     let at = c.requires.known in
     let goes = c.go_on-entry.ensures.gone_on at.before at.after at.run (ap (λ (s : KeptRuns). s.runs) c.self.view_is ∙ at.whole) at.number in
-    let zero : c.args.known.run ≡ 0 = omega arith in
     keeps_gone_on c.args.table.now c.valid.ensures (g.T.Chars.characters c.args.text.now) c.args.i c.args.self.now.runs c.requires.are_true at.before at.run
     at.after at.whole c.go_on-entry.result.0 c.go_on-entry.result.1 c.go_on-entry.new.self c.go_on-entry.new.spare goes
-    c.if-not-is_kept.false c.mark_quiet.new.self.runs
-    (ap (λ (s : KeptRuns). s.runs) c.mark_quiet.ensures ∙ goes.whole ∙ at_front at.before at.after goes.run (at.number ∙ zero))
+    c.if-not-is_kept.false c.move_to_front.new.self (c.move_to_front.ensures at.before at.after goes.run goes.whole at.number)

@@ -1,0 +1,28 @@
+use Rattle.std.proofs.Common.{◌≤◌, [], length, drop, sym, refl, ap, ◌∙◌, subst, arith}
+use Rattle.std.specs.List.{AllByRecursion}
+use Rattle.rbbi_model.specs.Runs.{IsTrueRun}
+use Rattle.rbbi_cache.proofs.Keeping.{keeps_stepped}
+use Rattle.rbbi_cache.proofs.Slots.{first_is, written_is}
+use Rattle.rbbi_cache.proofs.run_list.RunList.step.Goals as goal
+
+pub step-requires-clause-is_true : goal.step-requires-clause-is_true
+step-requires-clause-is_true g c =
+    let short : c.self.inside.count ≤ length c.self.inside.slots.items.items = omega (arith, c.self.invariant.0, c.self.invariant.1) in
+    let first = first_is c.self.inside.slots.items.items c.self.inside.count c.if-self-eq0.false short c.item_mut-run.result.now c.item_mut-run.ensures.value in
+    (subst (AllByRecursion (IsTrueRun c.args.table.now (g.T.Chars.characters c.args.text.now))) (sym c.self.view_is ∙ first.1) c.requires.are_true).0
+
+pub returns-clause-kept : goal.returns-clause-kept
+returns-clause-kept g c =
+    let short : c.self.inside.count ≤ length c.self.inside.slots.items.items = omega (arith, c.self.invariant.0, c.self.invariant.1) in
+    let first = first_is c.self.inside.slots.items.items c.self.inside.count c.if-self-eq0.false short c.item_mut-run.result.now c.item_mut-run.ensures.value in
+    keeps_stepped c.args.table.now c.valid.ensures (g.T.Chars.characters c.args.text.now) c.args.i c.args.self.now c.requires.are_true
+    c.item_mut-run.result.now first.0 (sym c.self.view_is ∙ first.1) c.step.new.run _
+    (written_is c.self.inside.slots.items.items c.self.inside.count short c.args.self.now [] c.item_mut-run.result.now first.0 c.self.view_is
+    (sym c.self.view_is ∙ first.1) 0 refl c.step.new.run) c.args.steps.now c.step.new.steps c.step.result c.step.ensures.gone_on
+
+pub returns-clause-others : goal.returns-clause-others
+returns-clause-others g c =
+    let short : c.self.inside.count ≤ length c.self.inside.slots.items.items = omega (arith, c.self.invariant.0, c.self.invariant.1) in
+    let first = first_is c.self.inside.slots.items.items c.self.inside.count c.if-self-eq0.false short c.item_mut-run.result.now c.item_mut-run.ensures.value in
+    ap (drop 1) (written_is c.self.inside.slots.items.items c.self.inside.count short c.args.self.now [] c.item_mut-run.result.now first.0 c.self.view_is
+    (sym c.self.view_is ∙ first.1) 0 refl c.step.new.run) ∙ sym (ap (drop 1) (sym c.self.view_is ∙ first.1))
