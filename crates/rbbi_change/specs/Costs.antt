@@ -13,7 +13,7 @@ use Rattle.rbbi_change.specs.declared.change.Edit.{Edit}
 abbrev pub is_barrier : Table → List ℕ → ℕ → Bool
 is_barrier table x p = is_anchor table x p && nat_le (look_end table x p) (p + 2)
 
--- the greatest barrier that lies three characters before a place, or more, or 0
+-- the greatest barrier that lies three characters or more before a place, or 0 where there is none
 abbrev pub barrier_before : Table → List ℕ → ℕ → ℕ
 barrier_before table x at = unwrap_or (greatest_below (is_barrier table x) (at - 2)) 0
 

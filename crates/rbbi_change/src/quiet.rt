@@ -17,6 +17,7 @@ fn ends_all(table: &Table, here: u16, next: u16) -> bool
     if !table.is_safe(here, next) {
         return false;
     }
+    // A search that ends after the first character is in row 0 after the second.
     let row = table.step(table.step(1, here), next);
     row == 0 || table.row(row).accept >= 2
 }
