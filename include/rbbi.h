@@ -194,8 +194,9 @@ int rbbi_session_replace(rbbi_session *session, uint32_t at, uint32_t remove, co
    it and outside of which boundaries and their statuses are the old ones. A place before `from` is a
    boundary exactly if it was one, and a place after `new_to` exactly if the place as far after
    `old_to` was one, with the same statuses. At both ends of the range boundaries may differ. It
-   copies the characters that it removes first, and searches the old and the new text from a boundary
-   before the edit to one after it at which they meet again, however far that is. */
+   copies the characters that it removes first. It reads back to two characters at which each search
+   ends, which by lines and sentences may be where the paragraph begins, and searches the old and the
+   new text from there to a boundary after the edit at which they meet again, however far that is. */
 int rbbi_session_replace_changed(rbbi_session *session, uint32_t at, uint32_t remove,
                                  const char *insert, size_t length, rbbi_change *change);
 

@@ -1,8 +1,10 @@
 pub mod Spliced
 pub mod Leads
 pub mod Settled
+pub mod Searched
 pub mod Places
 pub mod Alike
 pub mod Parts
 pub mod Meets
+pub mod Meeting
 pub mod Least

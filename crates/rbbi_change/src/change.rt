@@ -2,7 +2,9 @@
 ghost use Rattle.std.specs.Prelude.{◌≡◌, ◌≤◌, length};
 ghost use Rattle.rbbi_model.specs.Searches.{table_boundaries};
 ghost use Rattle.rbbi_cache.specs.Edits.{IsSpliced};
+ghost use Rattle.rbbi_text.specs.Steps.{RisesUpTo};
 ghost use Rattle.rbbi_change.specs.Changes.{IsLeastChange};
+ghost use Rattle.rbbi_change.specs.Costs.{change_cost};
 
 use crate::meet::meet_again;
 use crate::part::part_ways;
@@ -38,8 +40,9 @@ pub struct Change {
 /// the old ones. Where nothing else changed, it is what was removed and what was inserted.
 ///
 /// It goes back from the edit to a safe pair at which every search from before stops, searches both
-/// texts from there, and stops where a boundary after the edit is an old one, moved. It takes no
-/// memory.
+/// texts from there, and stops where a boundary after the edit is an old one, moved. On the way back
+/// it reads a character for each place, and one more; after that it reads what the searches of both
+/// texts read. It takes no memory.
 pub fn changed<S: Chars, T: Chars, L: Ledger>(
     table: &Table,
     old: &S,
@@ -54,6 +57,8 @@ pub fn changed<S: Chars, T: Chars, L: Ledger>(
     ensures least { IsLeastChange edit (table_boundaries table.now (S.characters old.now))
         (table_boundaries table.now (T.characters new.now)) result }
     ensures within { result.old_to ≤ length (S.characters old.now) }
+    ensures read { RisesUpTo (change_cost table.now (S.characters old.now) (T.characters new.now)
+        edit) steps.old steps.new }
     ensures fit { marks.new ≡ marks.old }
 {
     table.valid();

@@ -2,6 +2,7 @@
 ghost use Rattle.std.specs.Prelude.{◌≡◌};
 ghost use Rattle.rbbi_cache.specs.Edits.{IsSpliced};
 ghost use Rattle.rbbi_change.specs.inner.Parting.{ArePartedAt, IsLastChange};
+ghost use Rattle.rbbi_change.specs.inner.Reading.{HaveMet};
 
 use crate::change::Edit;
 use crate::part::Parting;
@@ -29,6 +30,8 @@ pub(crate) fn meet_again<S: Chars, T: Chars, L: Ledger>(
         parting }
     ensures last { IsLastChange table.now (S.characters old.now) (T.characters new.now) edit
         result }
+    ensures read { HaveMet table.now (S.characters old.now) (T.characters new.now) edit parting
+        steps.old steps.new }
     ensures fit { marks.new ≡ marks.old }
 {
     table.valid();

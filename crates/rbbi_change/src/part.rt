@@ -3,6 +3,7 @@ ghost use Rattle.std.specs.Prelude.{◌≡◌};
 ghost use Rattle.rbbi_cache.specs.Edits.{IsSpliced};
 ghost use Rattle.rbbi_change.specs.inner.Reaching.{IsQuiet};
 ghost use Rattle.rbbi_change.specs.inner.Parting.{ArePartedAt};
+ghost use Rattle.rbbi_change.specs.inner.Reading.{AreSearched};
 
 use crate::change::Edit;
 use crate::reached::{Reached, is_same, next_from};
@@ -34,6 +35,8 @@ pub(crate) fn part_ways<S: Chars, T: Chars, L: Ledger>(
     requires quiet { IsQuiet table.now (S.characters old.now) edit.at start }
     ensures parted { ArePartedAt table.now (S.characters old.now) (T.characters new.now) edit.at
         result }
+    ensures read { AreSearched table.now (S.characters old.now) (T.characters new.now)
+        start result.old.at start result.new.at steps.old steps.new }
     ensures fit { marks.new ≡ marks.old }
 {
     table.valid();

@@ -1,6 +1,7 @@
 //! Boundaries that a search has come to.
-ghost use Rattle.std.specs.Prelude.{◌≡◌, ◌<◌, ◌↔◌, IsTrue, length};
+ghost use Rattle.std.specs.Prelude.{◌≡◌, ◌+◌, ◌<◌, ◌↔◌, IsTrue, length};
 ghost use Rattle.rbbi_model.specs.Tables.{statuses_of};
+ghost use Rattle.rbbi_model.specs.Costs.{characters_read};
 ghost use Rattle.rbbi_change.specs.inner.Reaching.{IsNextOf};
 
 use rbbi_table::{FrontPlaces, Table};
@@ -25,6 +26,8 @@ pub(crate) fn next_from<T: Chars, L: Ledger>(
     requires within { place < length (T.characters text.now) }
     requires fit { marks.old ≡ table.now.slashes }
     ensures next { IsNextOf table.now (T.characters text.now) place result }
+    ensures read { steps.new
+        ≡ steps.old + characters_read table.now (T.characters text.now) place }
     ensures fit { marks.new ≡ marks.old }
 {
     table.valid();

@@ -1,7 +1,8 @@
 -- Boundaries of a text that searches have come to.
-use Rattle.std.specs.Prelude.{◌≡◌, ℕ, ◌<◌, ◌≤◌, ◌⊎◌, List, [], ◌∷◌, length}
+use Rattle.std.specs.Prelude.{◌≡◌, ℕ, ◌<◌, ◌≤◌, Bool, ◌&&◌, ◌⊎◌, List, [], ◌∷◌, length}
 use Rattle.std.specs.List.{AllByRecursion}
-use Rattle.rbbi_model.specs.Tables.{Table}
+use Rattle.rbbi_model.specs.Tables.{Table, step, stops}
+use Rattle.rbbi_model.specs.SafePairs.{is_safe}
 use Rattle.rbbi_model.specs.Searches.{look_end, found}
 use Rattle.rbbi_change.specs.declared.reached.Reached.{Reached}
 
@@ -27,3 +28,7 @@ pub record IsNextOf (table : Table) (x : List ℕ) (place : ℕ) (next : Reached
   pub at : next.at ≡ (found table x place).at
   pub list : next.list ≡ (found table x place).list
   pub listed : next.list < length table.lists
+
+-- the pair of categories is safe, and a search that begins with it looks no further
+abbrev pub ends_all : Table → ℕ → ℕ → Bool
+ends_all table here next = is_safe table here next && stops table (step table (step table 1 here) next)
