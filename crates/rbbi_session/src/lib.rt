@@ -10,11 +10,13 @@ mod boundary;
 mod paused;
 mod session;
 mod statuses;
+mod stretch;
 mod unit_error;
 mod unit_session;
 mod unit_walk;
 mod walk;
 
+pub use boundary::Boundary;
 pub use paused::Paused;
 pub use session::{Session, character_count};
 pub use statuses::greatest;
