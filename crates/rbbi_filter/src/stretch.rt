@@ -11,7 +11,7 @@ ghost use Rattle.rbbi_filter.specs.inner.Stretches.{IsLastReported, GoesBackTo};
 use crate::trail::Trail;
 use crate::{Abbreviations, Predicate};
 use rbbi_session::{Boundary, Session};
-use rbbi_text::{EditText, Steps};
+use rbbi_text::{Chars, EditText, Steps};
 use std::sync::ledger::Ledger;
 
 /// Goes to the last boundary before `o` that isn't suppressed.
@@ -63,18 +63,18 @@ fn last_reported<T: EditText, P: Predicate, L: Ledger>(
         + stretch_cost session.old.table session.old.state.text session.old.state.cursor o }
 {
     let _answered_for = list;
+    // That the text has only characters is known of its length.
+    let _length = session.text().len();
     let mut trail = Trail::start();
     let mut last = None;
-    let mut here = session.current();
     'boundaries: loop {
-        trail.go_on(session.text(), here, steps);
+        let here = session.boundary();
+        trail.go_on(session.text(), here.at, steps);
         if !keep.holds(trail.chars()) {
-            last = Some(session.boundary());
+            last = Some(here);
         }
-        let next = session.search_on(steps);
-        if next >= o {
+        if session.search_on(steps) >= o {
             return last;
         }
-        here = next;
     }
 }

@@ -83,7 +83,7 @@ first_past (b ∷ bs) a r is =
     (cases_Bool (ltb a b.at))
 
 -- the boundaries up to a place, and those from the first one past it on
-apart : (bs : List Boundary) (a r : ℕ) → IsRising (places bs) → first_after bs a ≡ Some r → AllByRecursion (λ b. (b.at ≤ a) ⊎ (r ≤ b.at)) bs
+pub apart : (bs : List Boundary) (a r : ℕ) → IsRising (places bs) → first_after bs a ≡ Some r → AllByRecursion (λ b. (b.at ≤ a) ⊎ (r ≤ b.at)) bs
 apart [] a r rising is = tt
 apart (b ∷ bs) a r rising is =
     ⊎_elim

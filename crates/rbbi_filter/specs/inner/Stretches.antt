@@ -1,5 +1,5 @@
 -- Many suppressed boundaries in a row: what is found on the way back past them.
-use Rattle.std.specs.Prelude.{◌≡◌, ℕ, ◌+◌, ◌≤◌, true, List, Option, Some, None}
+use Rattle.std.specs.Prelude.{◌≡◌, ℕ, ◌+◌, ◌≤◌, true, false, List, Option, Some, None}
 use Rattle.rbbi_model.specs.Tables.{Table}
 use Rattle.rbbi_model.specs.Searches.{table_boundaries}
 use Rattle.rbbi_model.specs.Answers.{last_before}
@@ -18,11 +18,13 @@ IsLastReported list table x first o None =
     × (last_before (kept list x (table_boundaries table x)) o ≡ last_before (kept list x (table_boundaries table x)) first)
     × (back_cost table x o + window_size + back_kept_cost table list x first ≤ back_kept_cost table list x o)
 IsLastReported list table x first o (Some last) =
-    IsBoundaryWith table x last.at last.status × (last_before (kept list x (table_boundaries table x)) o ≡ Some last.at)
+    IsBoundaryWith table x last.at last.status × (is_suppressed list x last.at ≡ false)
+    × (last_before (kept list x (table_boundaries table x)) o ≡ Some last.at)
 
 -- the session has gone to the last boundary before o that isn't suppressed, at the cost of that
 pub record GoesBackTo (list : List (List ℕ)) (old : Session) (o place : ℕ) (new : Session) (before after : ℕ) : Type 0 where
   pub last : last_before (kept list old.state.text (boundaries_of old)) o ≡ Some place
+  pub tells : is_suppressed list old.state.text place ≡ false
   pub moved : MovesTo old place new
   pub more : before ≤ after
   pub cost : after ≤ before + back_kept_cost old.table list old.state.text o
