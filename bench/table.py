@@ -358,6 +358,7 @@ def filters(bench):
         yield line
     for option, (file, _) in files.items():
         yield from filtered_questions(bench, option, ['run', option, file] + props + [path])
+    yield from suppressed_in_a_row(bench, props + [path])
 
 
 def filtered_questions(bench, option, words):
@@ -377,6 +378,26 @@ def filtered_questions(bench, option, words):
     if not lacking:
         times = each[TWELVE_MILLION] / each[ONE_MILLION]
         line.time, line.verdict = f'{times:.1f} times', verdict(times, 2)
+    yield line
+
+
+def suppressed_in_a_row(bench, rules):
+    """One `previous` that passes over suppressed boundaries alone, of which no safe pair lies between two."""
+    words = ['run', '--suppress', bench.file('one.abbreviations', 'Mr.\n')] + rules
+    scripts = [bench.file('last.script', 'last\n'), bench.file('back.script', 'last\nprevious\n')]
+    each, lacking = {}, bench.lacking(words + [bench.tiny(), scripts[0]])
+    for size in (200_000, 800_000):
+        line = Line(f'`run --suppress`, sentence.rules, `Mr. ` for {size // 1000} KB: one `previous`', lacking)
+        if not lacking:
+            text = bench.file(f'titles-{size}', 'Mr. ' * (size // 4))
+            last, back = (bench.seconds(words + [text, script]) for script in scripts)
+            each[size] = max(back - last, 1e-9)
+            line.time = time_text(each[size])
+        yield line
+    line = Line('such a `previous` over 800 KB over one over 200 KB', lacking, target='6 times')
+    if not lacking:
+        times = each[800_000] / each[200_000]
+        line.time, line.verdict = f'{times:.1f} times', verdict(times, 6)
     yield line
 
 

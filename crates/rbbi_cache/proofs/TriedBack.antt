@@ -1,9 +1,9 @@
 -- How far the tries back from a place have come, and what they may read.
-use Rattle.std.proofs.Common.{◌≡◌, ◌≢◌, ℕ, zero, suc, ◌+◌, ◌-◌, ◌*◌, ◌<◌, ◌≤◌, ◌⊎◌, true, false, eqb, ltb, List, [], ◌∷◌, ◌++◌, Option, Some, None, length}
+use Rattle.std.proofs.Common.{◌≡◌, ◌≢◌, ℕ, zero, suc, ◌+◌, ◌-◌, ◌*◌, ◌<◌, ◌≤◌, min, ◌⊎◌, true, false, eqb, ltb, List, [], ◌∷◌, ◌++◌, Option, Some, None, length}
 use Rattle.std.proofs.Common.{sym, refl, ap, ◌∙◌, subst, inl, inr, ⊎_elim, append_assoc, arith}
 use Rattle.std.specs.Prelude.{sum_by}
 use Rattle.std.specs.List.{AllByRecursion}
-use Rattle.std.proofs.lemmas.Bool.{cond-true, cond-false, lt-ltb, le-ltb, ne_eqb}
+use Rattle.std.proofs.lemmas.Bool.{cases_lt, cond-true, cond-false, lt-ltb, le-ltb, ne_eqb}
 use Rattle.std.proofs.lemmas.List.Sums.{sum_by_push}
 use Rattle.rbbi_model.specs.Boundaries.{Boundary}
 use Rattle.rbbi_model.specs.Tables.{Table}
@@ -19,7 +19,7 @@ use Rattle.rbbi_cache.proofs.Reanchor.{fresh_rises}
 use Rattle.rbbi_cache.proofs.Scanned.{first_is}
 use Rattle.rbbi_cache.proofs.Ready.{anchor_is}
 
--- The tries from i have come to this one, and as many characters were read.
+-- The tries from i have come to this one, and as many characters were read. Each try before it may have read two more than its searches do.
 pub record Tried (table : Table) (x : List ℕ) (i q read : ℕ) : Type 0 where
   pub done : List ℕ
   pub most : ℕ
@@ -27,7 +27,7 @@ pub record Tried (table : Table) (x : List ℕ) (i q read : ℕ) : Type 0 where
   pub enough : q ≤ most
   pub anchor : IsAnchor table x q
   pub far : (q ≡ 0) ⊎ (q + 3 ≤ i)
-  pub cost : read + q ≤ i + sum_by (λ p. searches_cost table x p (i - 1)) done
+  pub cost : read + q + min q (1 + (q + 4 - i)) ≤ min (i + 1) (2 * i - 1) + sum_by (λ p. searches_cost table x p (i - 1)) done
 
 last_joined : (done : List ℕ) (q : ℕ) → last_of (done ++ q ∷ []) ≡ q
 last_joined [] q = refl
@@ -48,12 +48,12 @@ module _ (table : Table) (valid : IsValidTable table) (x : List ℕ) (i : ℕ) w
     enough = ⊎_elim (λ zero. omega arith) (λ less. omega arith) (lies (i - 2));
     anchor = (anchor_is table valid x (i - 2)).anchor;
     far = ⊎_elim (λ zero. inl zero) (λ less. inr (omega arith)) (lies (i - 2));
-    cost = omega arith;
+    cost = ⊎_elim (λ zero. omega arith) (λ less. omega arith) (lies (i - 2));
   }
 
   -- the try settled nothing, and the next one is made
   pub tried_next : (q read : ℕ) → Tried table x i q read → q ≢ 0 → settles table x i q ≡ false → (read' read'' : ℕ) → read' ≤ read + searches_cost table x q (i
-      - 1) →
+      - 1) + 2 →
       read'' + anchor_below table x (2 * q + 1 - i) ≤ read' + (2 * q + 1 - i) + 1 → ((2 * q + 1 - i) ≤ 1 → read'' ≡ read') → Tried table x i (anchor_below
       table x (2 * q + 1 - i)) read''
   tried_next q read tried other fails read' read'' searched walked near = of tried.most tried.whole tried.enough
@@ -64,10 +64,15 @@ module _ (table : Table) (valid : IsValidTable table) (x : List ℕ) (i : ℕ) w
       before : q + 3 ≤ i
       before = ⊎_elim (λ zero. absurd (other zero)) (λ far. far) tried.far
 
+      -- a walk of at most one step reads nothing
+      walk : read'' + anchor_below table x (2 * q + 1 - i) + (1 - (2 * q + 1 - i)) ≤ read' + (2 * q + 1 - i) + 1
+      walk = ⊎_elim (λ long. omega (arith, walked)) (λ few. omega (arith, near few, lies (2 * q + 1 - i))) (cases_lt 1 (2 * q + 1 - i))
+
       of : (most : ℕ) → tries table x i ≡ tried.done ++ tries_from table x i most q → q ≤ most → Tried table x i (anchor_below table x (2 * q + 1 - i)) read''
       of zero whole enough = absurd (other (omega arith))
       of (suc most) whole enough =
           let apart = before in
+          let read_least = walk in
           let cost = tried.cost in
           let sum = sum_by_push (λ p. searches_cost table x p (i - 1)) tried.done q in
           record {
@@ -84,13 +89,11 @@ module _ (table : Table) (valid : IsValidTable table) (x : List ℕ) (i : ℕ) w
             cost = ⊎_elim (λ zero. omega arith) (λ less. omega arith) (lies (2 * q + 1 - i));
           }
 
-  -- the last try settles, and all was read that the cost allows
-  pub tried_last : (q read : ℕ) → 0 < i → Tried table x i q read → settles table x i q ≡ true → (read' : ℕ) → read' ≤ read + searches_cost table x q (i - 1) →
-      read' ≤ back_cost table x i
-  tried_last q read some tried holds read' searched =
+  -- the cost, where this try is the last
+  pub last_cost_is : (q read : ℕ) (tried : Tried table x i q read) → settles table x i q ≡ true → back_cost table x i
+      ≡ 2 * (i - q) + (sum_by (λ p. searches_cost table x p (i - 1)) tried.done + searches_cost table x q (i - 1))
+  last_cost_is q read tried holds =
       let whole : tries table x i ≡ tried.done ++ q ∷ [] = tried.whole ∙ ap (λ l. tried.done ++ l) (ends tried.most) in
-      let cost = tried.cost in
-      let near : q ≤ i = ⊎_elim (λ zero. omega arith) (λ far. omega arith) tried.far in
       omega (
         arith,
         ap last_of whole ∙ last_joined tried.done q,
@@ -100,6 +103,13 @@ module _ (table : Table) (valid : IsValidTable table) (x : List ℕ) (i : ℕ) w
       ends : (most : ℕ) → tries_from table x i most q ≡ q ∷ []
       ends zero = refl
       ends (suc most) = cond-true (settles table x i q) (q ∷ []) (q ∷ tries_from table x i most (anchor_below table x (2 * q + 1 - i))) holds
+
+  -- the last try settles, and all was read that the cost allows
+  pub tried_last : (q read : ℕ) → 0 < i → Tried table x i q read → settles table x i q ≡ true → (read' : ℕ) → read' ≤ read + searches_cost table x q (i - 1) →
+      read' ≤ back_cost table x i
+  tried_last q read some tried holds read' searched =
+      let cost = tried.cost in
+      ⊎_elim (λ zero. omega (arith, last_cost_is q read tried holds)) (λ far. omega (arith, last_cost_is q read tried holds)) tried.far
 
 -- nothing passes any more
 last_stays : (bs : List Boundary) (i : ℕ) (before : Option ℕ) → AllByRecursion (λ b. i ≤ b.at) bs → last_place (λ at. ltb at i) before bs ≡ before

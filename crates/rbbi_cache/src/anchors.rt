@@ -11,7 +11,7 @@ use std::sync::ledger::Ledger;
 const PAIR_PLACES: u32 = 1024;
 
 /// The greatest anchor below a place of the text, or the low place if none lies past it.
-pub(crate) fn anchor_before<T: Chars, L: Ledger>(
+pub fn anchor_before<T: Chars, L: Ledger>(
     table: &Table,
     text: &T,
     low: u32,

@@ -15,7 +15,9 @@ mod scan;
 mod search;
 mod search_back;
 mod shown;
+mod single;
 
+pub use anchors::anchor_before;
 pub use cache::Cache;
 pub use entry::Entry;
 pub use run::{MOST_ENTRIES, Run};

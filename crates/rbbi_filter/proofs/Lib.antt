@@ -6,6 +6,7 @@ pub mod Passing
 pub mod Covering
 pub mod Answering
 pub mod Filtering
+pub mod Stretches
 pub mod ListingCosts
 pub mod Turning
 pub mod PairLines

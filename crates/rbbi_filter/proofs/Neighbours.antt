@@ -155,7 +155,7 @@ filter_agree test other (b ∷ bs) agree =
     ap (λ t. cond t (b ∷ filter test bs) (filter test bs)) agree.0
     ∙ ap (λ cs. cond (other b) (b ∷ cs) cs) (filter_agree test other bs agree.1)
 
-last_append : (test : ℕ → Bool) (before : Option ℕ) (xs ys : List Boundary) → last_place test before (xs ++ ys) ≡ last_place test (last_place test before xs) ys
+pub last_append : (test : ℕ → Bool) (before : Option ℕ) (xs ys : List Boundary) → last_place test before (xs ++ ys) ≡ last_place test (last_place test before xs) ys
 last_append test before [] ys = refl
 last_append test before (b ∷ xs) ys = last_append test (cond (test b.at) (Some b.at) before) xs ys
 

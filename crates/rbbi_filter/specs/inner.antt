@@ -3,3 +3,5 @@ pub mod Windows
 pub mod Turning
 pub mod PairLines
 pub mod Members
+pub mod Trails
+pub mod Stretches

@@ -4,6 +4,7 @@ ghost use Rattle.rbbi_filter.specs.declared.filter.Filter.TheVariants.{Suppressi
 ghost use Rattle.rbbi_filter.specs.FilterSessions.{FilterSession, HasTrueRuns, IsOpened};
 
 use crate::moves::Moves;
+use crate::stretch::far_before;
 use crate::through::Through;
 use crate::window::is_suppressed;
 use crate::{Abbreviations, Predicate};
@@ -11,6 +12,10 @@ use rbbi_session::Session;
 use rbbi_text::{EditErr, EditText, Steps};
 use std::marker::Model;
 use std::sync::ledger::Ledger;
+
+/// How many suppressed boundaries are passed over one by one going back, before whole stretches
+/// are: as many as a kept run has.
+const ONE_BY_ONE: u32 = 256;
 
 /// A session that doesn't report a boundary within the text where a predicate is true of the
 /// characters before it, at most 64: that is where they end with an abbreviation of a list. Its
@@ -109,11 +114,16 @@ impl<T: EditText, P: Predicate> Moves for Suppressed<'_, T, P> {
 
     fn before<L: Ledger>(&mut self, o: u32, steps: &mut Steps<L>) -> u32 {
         let mut from = o;
+        let mut left = ONE_BY_ONE;
         while let Some(at) = self.session.preceding(from, steps) {
             if !is_suppressed(self.session.text(), at, self.list, &self.keep, steps) {
                 return at;
             }
             from = at;
+            left -= 1;
+            if left == 0 {
+                return far_before(&mut self.session, self.list, &self.keep, from, steps);
+            }
         }
         from
     }

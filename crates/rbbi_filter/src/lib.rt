@@ -16,9 +16,11 @@ mod mapped;
 mod moves;
 mod pair;
 mod performing;
+mod stretch;
 mod tailored;
 mod tailoring;
 mod through;
+mod trail;
 mod window;
 
 pub use abbreviation::{AbbrErr, Abbreviations};

@@ -11,7 +11,7 @@ use rbbi_text::{Chars, Steps};
 use std::sync::ledger::Ledger;
 
 /// How many characters before a boundary are looked at.
-const SIZE: usize = 64;
+pub(crate) const SIZE: usize = 64;
 
 /// Reads the characters before a place, from the last one on, into the window's end: those without
 /// the spaces at their end, as many as tell whether an abbreviation of at most `longest` characters

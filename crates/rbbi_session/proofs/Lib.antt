@@ -4,6 +4,7 @@ pub mod Reaching
 pub mod Answering
 pub mod Stepping
 mod Asked
+pub mod Stretching
 pub mod UnitCursors
 pub mod UnitAnswering
 pub mod UnitEditing

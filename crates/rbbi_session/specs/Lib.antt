@@ -7,4 +7,5 @@ pub mod UnitErrors
 pub mod Walks
 pub mod UnitWalks
 pub mod Pausing
+pub mod Stretches
 pub mod inner

@@ -6,11 +6,11 @@ use rbbi_table::Table;
 
 /// A boundary of a text.
 #[derive(Clone, Copy, Debug)]
-pub(crate) struct Boundary {
+pub struct Boundary {
     /// Its place, in characters from 0.
-    pub(crate) at: u32,
+    pub at: u32,
     /// The number of its status list in the table.
-    pub(crate) status: u16,
+    pub status: u16,
 }
 
 /// The boundary before the first character, by this table.

@@ -11,11 +11,13 @@ mod known;
 mod paused;
 mod session;
 mod statuses;
+mod stretch;
 mod unit_error;
 mod unit_session;
 mod unit_walk;
 mod walk;
 
+pub use boundary::Boundary;
 pub use paused::Paused;
 pub use session::{Session, character_count};
 pub use statuses::greatest;

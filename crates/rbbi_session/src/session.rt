@@ -225,7 +225,7 @@ impl<'a, T: EditText> Session<'a, T> {
     }
 
     /// Goes to the first boundary past `i`, which lies within the text.
-    fn go_past<L: Ledger>(&mut self, i: u32, steps: &mut Steps<L>) -> u32
+    pub(crate) fn go_past<L: Ledger>(&mut self, i: u32, steps: &mut Steps<L>) -> u32
         requires { i < length self.old.state.text }
         ensures first { first_after (boundaries_of self.old) i ≡ Some result }
         ensures moved { MovesTo self.old result self.new }

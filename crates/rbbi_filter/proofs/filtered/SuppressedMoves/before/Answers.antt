@@ -1,12 +1,13 @@
-use Rattle.std.proofs.Common.{◌≡◌, Some, refl, ap, ◌∙◌, subst, arith}
+use Rattle.std.proofs.Common.{◌≡◌, ◌<◌, ◌≤◌, true, Some, refl, ap, ◌∙◌, subst, arith}
 use Rattle.rbbi_model.specs.Answers.{Preceding}
 use Rattle.rbbi_session.specs.Sessions.{place_reply}
 use Rattle.rbbi_session.specs.Sessions as plain
 use Rattle.rbbi_filter.specs.Abbreviations.{is_suppressed}
-use Rattle.rbbi_filter.proofs.Filtering.{same_at_first, looked_told, looked_hidden, back_there, back_stops, back_goes}
+use Rattle.rbbi_filter.proofs.Filtering.{IsPassingBack, same_at_first, looked_told, looked_hidden, back_there, back_stops, back_goes}
+use Rattle.rbbi_filter.proofs.Stretches.{back_far}
 use Rattle.rbbi_filter.proofs.filtered.SuppressedMoves.before.Given.{Over}
 use Rattle.rbbi_filter.proofs.filtered.SuppressedMoves.before.Goals as goal
-use Rattle.rbbi_filter.proofs.filtered.SuppressedMoves.before.Goals.{After-text}
+use Rattle.rbbi_filter.proofs.filtered.SuppressedMoves.before.Goals.{After-text, After-is_suppressed}
 
 -- the session has gone to a boundary of its own
 answered : (g : Over) (c : After-text g) → plain.Answers c.loop-at.self-inside.session (Preceding c.loop-at.from) (place_reply (Some c.in-Some.at))
@@ -34,6 +35,7 @@ loop-at-init g c = record {
     paid = omega arith;
   };
   tells = c.self.invariant.1;
+  left = omega arith;
 }
 
 pub is_suppressed-requires-clause-tells : goal.is_suppressed-requires-clause-tells
@@ -59,13 +61,27 @@ returns-then-not-is_suppressed g c =
     (record { more = c.preceding.ensures.reads.more; cost = c.preceding.ensures.reads.cost }) c.is_suppressed.ensures.cost tells in
     record { last = stops.0; moved = stops.1; cost = stops.2 }
 
+passed : (g : Over) (c : After-is_suppressed g) → c.is_suppressed.result ≡ true → g.T.Chars.characters c.text.result.now ≡ c.args.self.now.state.text →
+    plain.Answers c.loop-at.self-inside.session (Preceding c.loop-at.from) (place_reply (Some c.in-Some.at)) c.preceding.new.self →
+    IsPassingBack c.loop-at.self-inside.list.now c.args.self.now c.args.o c.preceding.new.self c.in-Some.at c.args.steps.now c.is_suppressed.new.steps
+    × (c.in-Some.at < c.loop-at.from)
+passed g c is same replied =
+    let list = c.loop-at.self-inside.list.now in
+    let hides = looked_hidden list c.args.self.now.state.text _ c.in-Some.at c.is_suppressed.result c.is_suppressed.ensures.exact same is in
+    back_goes list c.args.self.now c.args.o c.loop-at.self-inside.session c.preceding.new.self c.loop-at.from c.args.steps.now c.loop-at.steps
+    c.loop-at.invariant.passing c.in-Some.at c.preceding.new.steps c.is_suppressed.new.steps replied
+    (record { more = c.preceding.ensures.reads.more; cost = c.preceding.ensures.reads.cost }) c.is_suppressed.ensures.cost hides
+
 pub loop-at-preserved : goal.loop-at-preserved
 loop-at-preserved g c =
     let here = (goal.at.loop-at-preserved g c).After-text in
-    let list = c.loop-at.self-inside.list.now in
-    let hides = looked_hidden list c.args.self.now.state.text _ c.in-Some.at c.is_suppressed.result c.is_suppressed.ensures.exact (same g here)
-    c.if-not-is_suppressed.false in
-    let goes = back_goes list c.args.self.now c.args.o c.loop-at.self-inside.session c.preceding.new.self c.loop-at.from c.args.steps.now c.loop-at.steps
-    c.loop-at.invariant.passing c.in-Some.at c.preceding.new.steps c.is_suppressed.new.steps (answered g here)
-    (record { more = c.preceding.ensures.reads.more; cost = c.preceding.ensures.reads.cost }) c.is_suppressed.ensures.cost hides in
-    record { passing = goes.0; tells = c.loop-at.invariant.tells }
+    let goes = passed g (goal.at.loop-at-preserved g c).After-is_suppressed c.if-not-is_suppressed.false (same g here) (answered g here) in
+    record { passing = goes.0; tells = c.loop-at.invariant.tells; left = omega (arith, c.if-left-eq0.false) }
+
+pub returns-then-left-eq0 : goal.returns-then-left-eq0
+returns-then-left-eq0 g c =
+    let here = (goal.at.returns-then-left-eq0 g c).After-text in
+    let goes = passed g (goal.at.returns-then-left-eq0 g c).After-is_suppressed c.if-not-is_suppressed.false (same g here) (answered g here) in
+    let far = back_far c.loop-at.self-inside.list.now c.args.self.now c.args.o c.preceding.new.self c.in-Some.at c.args.steps.now c.is_suppressed.new.steps
+    goes.0 c.far_before.result c.far_before.new.session c.far_before.new.steps c.far_before.ensures in
+    record { last = far.0; moved = far.1; cost = far.2 }
