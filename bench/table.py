@@ -621,9 +621,14 @@ class Calls:
 
     def text(self):
         """A cell is a pair, of the seconds of a call and of what it is held against, or None."""
-        told = [cell and f'{time_text(cell[0])}, {cell[0] / cell[1]:.2f}' or '' for cell in self.cells]
-        most = max([cell[0] / cell[1] for cell in self.cells if cell], default=0)
-        said = '' if not self.most or not most else 'met' if most <= self.most else f'up to {most:.2f}'
+        told = [f'{time_text(cell[0])}, {cell[0] / cell[1]:.2f}' if cell else '' for cell in self.cells]
+        most = max([cell[0] / cell[1] for cell in self.cells if cell], default=None)
+        if most is None:
+            said = 'not measured'
+        elif self.most is None:
+            said = ''
+        else:
+            said = 'met' if most <= self.most else f'up to {most:.2f}'
         return '| ' + ' | '.join([self.what, *told, str(self.most or ''), said]) + ' |'
 
 
