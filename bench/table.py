@@ -99,11 +99,12 @@ def compiling(bench):
             line.time, line.peak = time_text(seconds), size_text(result.peak)
             line.verdict = verdict(seconds, target) if target else ''
         yield bench.beside_icu(line, theirs, 5, seconds)
-    least = {command: min(measure(bench.program + words).seconds for _ in range(40))
-             for command, words in {'compile': ['compile', one, os.path.join(bench.folder, 'one.table')],
-                                    'check': ['check', one]}.items()}
-    yield Line('`compile` of the one rule `a;` over `check` of it, the least of 40 each',
-               time_text(max(least['compile'] - least['check'], 1e-9)))
+    none, written = ('/dev/null', os.path.join(bench.folder, 'one.table'))
+    alone, *others = (min(measure(bench.program + words).seconds for _ in range(40))
+                      for words in (['check', one], ['compile', one, none], ['compile', one, written]))
+    for what, seconds in zip(('into /dev/null', 'into a file'), others):
+        yield Line(f'`compile` of the one rule `a;` {what}, over `check` of it, the least of 40 each',
+                   time_text(max(seconds - alone, 1e-9)))
     for name in ('grapheme', 'word', 'sentence', 'line'):
         yield loading(bench, name)
 
