@@ -3,12 +3,12 @@ import re
 
 # A line is slower where it takes more than this many times what it took.
 SLOWER = 1.2
-UNITS = {'s': 1, 'ms': 1e-3, 'µs': 1e-6, 'times': 1}
+UNITS = {'s': 1, 'ms': 1e-3, 'µs': 1e-6, 'ns': 1e-9, 'times': 1}
 
 
 def cost_of(cell):
     """What a cell tells, so that more is slower: seconds, seconds a character, or times; or None."""
-    found = re.fullmatch(r'([\d.,]+) (s|ms|µs|times|M/s)', cell)
+    found = re.fullmatch(r'([\d.,]+) (s|ms|µs|ns|times|M/s)(, [\d.]+)?', cell)
     if not found:
         return None
     number = float(found[1].replace(',', ''))
@@ -20,15 +20,21 @@ def costs_of(text):
 
     What was measured and stands in the name, as the size of a table, is left out of it.
     """
-    costs = {}
+    costs, head = {}, []
     for line in text.splitlines():
         cells = [cell.strip().replace('\\|', '|') for cell in re.split(r'(?<!\\)\|', line)[1:-1]]
-        if len(cells) != 8:
+        if 'verdict' in cells:
+            head = cells
+        if not cells or len(cells) != len(head):
             continue
-        cost = cost_of(cells[1])
-        cost = cost_of(cells[2]) if cost is None else cost
-        if cost is not None:
-            costs[re.sub(r' \(the bare loop [^)]*\)|, a table of [\d,]+ bytes', '', cells[0])] = cost
+        name = re.sub(r' \(the bare loop [^)]*\)|, a table of [\d,]+ bytes', '', cells[0])
+        told = {column: cost_of(cell) for column, cell in zip(head, cells)}
+        # A line of the second table has a cost for each text; one of the first has a time, or a rate.
+        places = [column for column in told if column.startswith('UTF')]
+        costs.update((f'{name}, {column}', told[column]) for column in places if told[column])
+        cost = told.get('time') or told.get('characters a second')
+        if cost:
+            costs[name] = cost
     return costs
 
 

@@ -11,8 +11,13 @@ from measure import measure
 NOT_BUILT = 'not built yet'
 MIB = 1 << 20
 
+# How many seconds ICU may take to compile rules.
+MOST_OF_ICU = 10
+
 
 def time_text(seconds):
+    if seconds < 1e-6:
+        return f'{1e9 * seconds:.0f} ns'
     if seconds < 0.0001:
         return f'{1e6 * seconds:.1f} µs'
     return f'{seconds:.2f} s' if seconds >= 1 else f'{1000 * seconds:.1f} ms'
@@ -61,12 +66,12 @@ def both_verdicts(result, seconds, memory):
 
 
 class Bench:
-    """The program, and where they are there, that of single calls, ICU's and the bare loop's; and the
-    folder of the inputs."""
+    """The program, and where they are there, that of single calls, ICU's, the bare loop's and that of
+    calls through C; and the folder of the inputs."""
 
-    def __init__(self, program, parts, top, folder, data, icu, bare, quick, rounds):
+    def __init__(self, program, parts, top, folder, data, icu, bare, c_calls, quick, rounds):
         self.program, self.parts, self.top, self.folder, self.data = program, parts, top, folder, data
-        self.icu, self.bare, self.rounds = icu, bare, rounds
+        self.icu, self.bare, self.c_calls, self.rounds = icu, bare, c_calls, rounds
         self.sizes = list(inputs.SIZES.values())[:1 if quick else 2]
 
     def best(self, words):
@@ -123,18 +128,23 @@ class Bench:
         passed = results[1].seconds - results[0].seconds
         return (self.sizes[1] - self.sizes[0]) / max(passed, 1e-9)
 
-    def icu_answer(self, words):
-        """The numbers that ICU's program prints, or None where it refuses."""
+    def icu_answer(self, words, most=None):
+        """The numbers that ICU's program prints, or None where it refuses. It may take so many seconds."""
         run = subprocess.run([self.icu] + words, stdout=subprocess.PIPE, stderr=subprocess.DEVNULL,
-                             check=False)
+                             check=False, timeout=most)
         return [float(word) for word in run.stdout.split()] if run.returncode == 0 else None
 
     def beside_icu(self, line, rules, rounds, seconds):
-        """Puts into a line how long ICU compiles the same rules, where it takes them."""
-        answer = self.icu_answer(['compile', rules, str(rounds)]) if self.icu else None
+        """Puts into a line how long ICU compiles the same rules, where it takes them: in at most so long."""
+        over, answer = '', None
+        if self.icu:
+            try:
+                answer = self.icu_answer(['compile', rules, str(rounds)], MOST_OF_ICU)
+            except subprocess.TimeoutExpired:
+                over, answer = 'over ', [1000 * MOST_OF_ICU]
         if answer:
-            line.icu = time_text(answer[0] / 1000)
-            line.ratio = f'{answer[0] / 1000 / seconds:.2f}' if seconds else ''
+            line.icu = over + time_text(answer[0] / 1000)
+            line.ratio = f'{over}{answer[0] / 1000 / seconds:.2f}' if seconds else ''
         return line
 
     def below(self, what, words, seconds, memory=None, theirs=None):

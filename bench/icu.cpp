@@ -3,6 +3,7 @@
 //   icu compile RULES ROUNDS       milliseconds for compiling the rules once
 //   icu scan RULES TEXT ROUNDS     boundaries, and seconds for finding all of them once
 //   icu questions RULES TEXT SCRIPT ROUNDS     questions, and seconds for asking all of them once
+//   icu version                    ICU's version
 //   icu breaks RULES TEXT          a line `PLACE STATUS,..` for each boundary, as `rbbi breaks` has it
 //
 // RULES is in ICU's own syntax, and both files are UTF-8. A time is the least of ROUNDS rounds.
@@ -116,7 +117,11 @@ static int64_t ask(RuleBasedBreakIterator &breaks, const std::vector<Question> &
 }
 
 int main(int count, char **words) {
-    std::string command = count > 2 ? words[1] : "";
+    std::string command = count > 1 ? words[1] : "";
+    if (command == "version" && count == 2) {
+        std::printf("%s\n", U_ICU_VERSION);
+        return 0;
+    }
     if (command == "compile" && count == 4) {
         UnicodeString rules = read_file(words[2]);
         std::printf("%.3f\n", 1000 * least_seconds(std::atoi(words[3]), [&] { compile(rules); }));

@@ -4,6 +4,7 @@ Everything is made by this file from a fixed seed, so that two machines measure 
 downloaded. A text is made in blocks of 100,000 characters, so that the larger text of a kind begins
 with the smaller one.
 """
+import functools
 import itertools
 import os
 import random
@@ -417,21 +418,32 @@ def edit_script(size, edits, asked):
 OF_SIZE = {1: 'x', 2: '\u00E9', 3: '\u0E01', 4: '\U0001D11E'}
 
 
+@functools.lru_cache(maxsize=1)
+def text_of(path):
+    with open(path, encoding='utf-8') as file:
+        return file.read()
+
+
 def unit_script(path, count, edits, unit):
     """Questions at random places of a text, in characters or in bytes, each with an edit before it where
     `edits` says so. An edit puts a character in place of one of as many bytes, so that all characters
     begin where they began."""
-    with open(path, encoding='utf-8') as file:
-        text = file.read()
-    size = {'chars': lambda c: 1, 'utf8': lambda c: len(c.encode())}[unit]
-    starts = [0, *itertools.accumulate(size(c) for c in text)]
+    text = text_of(path)
     source = random.Random(f'units {len(text)}')
+    places = [source.randrange(len(text)) for _ in range(count * (2 if edits else 1))]
+    starts = dict(zip(places, places))
+    if unit == 'utf8':
+        start, before = 0, 0
+        for place in sorted(starts):
+            start, before = start + len(text[before:place].encode()), place
+            starts[place] = start
     lines = []
-    for _ in range(count):
-        if edits:
-            place = source.randrange(len(text))
-            lines.append(f'replace {starts[place]} {size(text[place])} {OF_SIZE[len(text[place].encode())]}')
-        lines.append(f'following {starts[source.randrange(len(text))]}')
+    for number, place in enumerate(places):
+        if edits and number % 2 == 0:
+            size = len(text[place].encode())
+            lines.append(f'replace {starts[place]} {size if unit == "utf8" else 1} {OF_SIZE[size]}')
+        else:
+            lines.append(f'following {starts[place]}')
     return '\n'.join(lines) + '\n'
 
 
