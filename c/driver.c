@@ -1,6 +1,7 @@
 /*
  * Plays a script as `rbbi run` does, through the C library: driver RULES TEXT SCRIPT UNIT. Places
  * count UNIT, one of chars, utf8 and utf16. Of the edits only `replace` is known, without escapes.
+ * With one more word it plays the script as `rbbi tally` does, without the length after `ok`.
  * After each line the calls that read many boundaries at once, or a segment, are compared with the
  * questions, and after each edit what it changed with the boundaries of both texts; where they differ
  * the status is 2.
@@ -44,12 +45,10 @@ static void place(int answer, const uint32_t *told) {
     }
 }
 
-static void edited(rbbi_session *session, int answer) {
-    uint32_t length;
+/* Whether an edit is accepted; a refusal is printed. */
+static int accepted(int answer) {
     switch (answer) {
     case RBBI_OK:
-        must(rbbi_session_length(session, &length), "length");
-        printf("ok %u\n", length);
         break;
     case RBBI_OUTSIDE:
         puts("outside");
@@ -62,6 +61,15 @@ static void edited(rbbi_session *session, int answer) {
         break;
     default:
         must(answer, "edit");
+    }
+    return answer == RBBI_OK;
+}
+
+static void edited(rbbi_session *session, int answer) {
+    uint32_t length;
+    if (accepted(answer)) {
+        must(rbbi_session_length(session, &length), "length");
+        printf("ok %u\n", length);
     }
 }
 
@@ -254,8 +262,48 @@ static void compare(rbbi_session *session, uint32_t from) {
     must(rbbi_session_is_boundary(session, cursor, &now), "is");
 }
 
+/* Prints all counts of a tally, each asked for alone too. */
+static void tell_counts(rbbi_tally *tally) {
+    uint32_t all, number, statuses[64], counts[64];
+    size_t count;
+    must(rbbi_tally_segments(tally, &all), "segments");
+    printf("segments %u\n", all);
+    must(rbbi_tally_each(tally, statuses, counts, 64, &count), "each");
+    for (size_t i = 0; i < count; i++) {
+        must(rbbi_tally_count(tally, statuses[i], &number), "count");
+        same(number == counts[i], "count");
+        printf("%u %u\n", statuses[i], counts[i]);
+    }
+}
+
+/* Performs the edits of a script. */
+static void tally_script(rbbi_tally *tally, char *script) {
+    uint32_t a, b;
+    int at;
+    tell_counts(tally);
+    for (char *line = strtok(script, "\n"); line; line = strtok(NULL, "\n")) {
+        if (sscanf(line, "replace %u %u%n", &a, &b, &at) != 2) {
+            continue;
+        }
+        char *insert = line[at] == ' ' ? line + at + 1 : line + at;
+        if (accepted(rbbi_tally_replace(tally, a, b, insert, strlen(insert)))) {
+            puts("ok");
+            tell_counts(tally);
+        }
+    }
+}
+
+static void play_script(rbbi_session *session, char *script) {
+    uint32_t from = 0;
+    for (char *line = strtok(script, "\n"); line; line = strtok(NULL, "\n")) {
+        play(session, line);
+        compare(session, from);
+        from = (from + 1009) % 3001;
+    }
+}
+
 int main(int count, char **words) {
-    if (count != 5) {
+    if (count != 5 && count != 6) {
         return 2;
     }
     int unit = strcmp(words[4], "chars") == 0 ? RBBI_CHARS
@@ -278,16 +326,21 @@ int main(int count, char **words) {
     free(file);
     char *text = bytes_of(words[2], &length);
     rbbi_session session = RBBI_INIT;
-    must(rbbi_session_open(&session, &loaded, text, length, unit), "open");
+    rbbi_tally tally = RBBI_INIT;
+    if (count == 5) {
+        must(rbbi_session_open(&session, &loaded, text, length, unit), "open");
+    } else {
+        must(rbbi_tally_open(&tally, &loaded, text, length, unit), "open");
+    }
     rbbi_table_close(&loaded);
     char *script = bytes_of(words[3], &length);
-    uint32_t from = 0;
-    for (char *line = strtok(script, "\n"); line; line = strtok(NULL, "\n")) {
-        play(&session, line);
-        compare(&session, from);
-        from = (from + 1009) % 3001;
+    if (count == 5) {
+        play_script(&session, script);
+    } else {
+        tally_script(&tally, script);
     }
     rbbi_session_close(&session);
+    rbbi_tally_close(&tally);
     free(rules);
     free(text);
     free(script);

@@ -42,6 +42,12 @@ static int is_done(int answer, int line) {
         wrong = 1;                                                                                 \
     }
 
+/* How many segments have a status; 77 where the call is refused. */
+static uint32_t count_of(rbbi_tally *tally, uint32_t status) {
+    uint32_t count = 77;
+    return rbbi_tally_count(tally, status, &count) == RBBI_OK ? count : 77;
+}
+
 static int place_of(rbbi_session *session, uint32_t from) {
     uint32_t place = 0;
     int answer = rbbi_session_following(session, from, &place);
@@ -87,6 +93,21 @@ int main(void) {
         wrong |= length != 4 || memcmp(file, "aa11", 4) != 0;
         DONE(rbbi_session_replace_utf16(&session, 0, 1, wide, 2, NULL));
         wrong |= place_of(&session, 0) != 1 || place_of(&session, 4) != 1002;
+        rbbi_tally tally = RBBI_INIT;
+        DONE(rbbi_tally_open(&tally, &other, text, sizeof text, RBBI_UTF8));
+        wrong |= count_of(&tally, 200) != 1 || count_of(&tally, 100) != 0;
+        answer = rbbi_tally_replace(&tally, 1000, 5, insert, sizeof insert);
+        if (answer == RBBI_MEMORY) {
+            wrong |= count_of(&tally, 200) != 1 || count_of(&tally, 100) != 0;
+        }
+        if (!is_done(answer, __LINE__)) {
+            DONE(rbbi_tally_replace(&tally, 1000, 5, insert, sizeof insert));
+        }
+        wrong |= count_of(&tally, 200) != 2 || count_of(&tally, 100) != 1;
+        uint32_t statuses[2] = {0, 0}, counts[2] = {0, 0};
+        DONE(rbbi_tally_each(&tally, statuses, counts, 2, &length));
+        wrong |= length != 2 || statuses[0] != 100 || counts[0] != 1 || counts[1] != 2;
+        rbbi_tally_close(&tally);
         rbbi_files_close(&files);
         rbbi_table_close(&table);
         rbbi_table_close(&loaded);

@@ -181,6 +181,44 @@ int main(void) {
     rbbi_session_close(&third);
     IS(rbbi_session_next(&fourth, &told), RBBI_OK);
     rbbi_session_close(&fourth);
+
+    /* tallies */
+    rbbi_tally tally = RBBI_INIT, empty = RBBI_INIT;
+    uint32_t statuses[2] = {77, 77}, counts[2] = {77, 77};
+    IS(rbbi_tally_open(NULL, &table, text, 5, RBBI_UTF8), RBBI_NULL);
+    IS(rbbi_tally_open(&tally, &table, NULL, 5, RBBI_UTF8), RBBI_NULL);
+    IS(rbbi_tally_open(&tally, &other, text, 5, RBBI_UTF8), RBBI_HANDLE);
+    IS(rbbi_tally_open(&tally, &table, text, 5, 3), RBBI_UNIT);
+    IS(rbbi_tally_open(&tally, &table, "\xc3(", 2, RBBI_UTF8), RBBI_NOT_UTF8);
+    IS(rbbi_tally_open(&tally, &table, "ab 12 \xf0\x9f\x98\x80", 10, RBBI_UTF16), RBBI_OK);
+    IS(rbbi_tally_open(&tally, &table, text, 5, RBBI_UTF8), RBBI_HANDLE);
+    IS(rbbi_tally_replace(&tally, 7, 1, NULL, 1), RBBI_NULL);
+    IS(rbbi_tally_replace(&tally, 7, 1, "\xff", 1), RBBI_NOT_UTF8);
+    IS(rbbi_tally_replace(&tally, 7, 1, "", 0), RBBI_INSIDE);
+    IS(rbbi_tally_replace(&tally, 6, 1, "", 0), RBBI_INSIDE);
+    IS(rbbi_tally_replace(&tally, 6, 3, "", 0), RBBI_OUTSIDE);
+    IS(rbbi_tally_replace((rbbi_tally *)&session, 0, 1, "", 0), RBBI_HANDLE);
+    IS(rbbi_tally_segments(&tally, NULL), RBBI_NULL);
+    IS(rbbi_tally_segments(&tally, &told), RBBI_OK);
+    IS(told == 5, 1);
+    IS(rbbi_tally_count(&tally, 0, &told), RBBI_OK);
+    IS(told == 3, 1);
+    IS(rbbi_tally_each(&tally, NULL, counts, 1, &count), RBBI_NULL);
+    IS(rbbi_tally_each(&tally, NULL, NULL, 0, &count), RBBI_ROOM);
+    IS(count == 3, 1);
+    IS(rbbi_tally_each(&tally, statuses, counts, 2, &count), RBBI_ROOM);
+    IS(count == 3 && statuses[0] == 0 && counts[0] == 3 && statuses[1] == 100 && counts[1] == 1, 1);
+    IS(rbbi_tally_replace(&tally, 0, 8, NULL, 0), RBBI_OK);
+    IS(rbbi_tally_each(&tally, statuses, counts, 2, &count), RBBI_OK);
+    IS(count == 0 && statuses[0] == 0, 1);
+    IS(rbbi_tally_count(&empty, 0, &told), RBBI_HANDLE);
+    IS(rbbi_tally_each(&empty, statuses, counts, 2, &count), RBBI_HANDLE);
+    IS(rbbi_session_next((rbbi_session *)&tally, &told), RBBI_HANDLE);
+    IS(told == 3 && count == 0, 1);
+    rbbi_tally_close(&tally);
+    rbbi_tally_close(&tally);
+    rbbi_tally_close(NULL);
+
     rbbi_table_close(&table);
     rbbi_session_close(&session);
     rbbi_session_close(&session);

@@ -58,6 +58,11 @@ uint32_t rbbi_c_preceding(rbbi_session *, uint32_t, uint32_t *);
 uint32_t rbbi_c_is_boundary(rbbi_session *, uint32_t, uint32_t *);
 uint32_t rbbi_c_current(rbbi_session *, uint32_t *);
 uint32_t rbbi_c_status(rbbi_session *, uint32_t *);
+uint32_t rbbi_c_tally_open(rbbi_table *, const uint8_t *, size_t, uint32_t, rbbi_tally *);
+uint32_t rbbi_c_tally_replace(rbbi_tally *, uint32_t, uint32_t, const uint8_t *, size_t);
+uint32_t rbbi_c_tally_segments(rbbi_tally *, uint32_t *);
+uint32_t rbbi_c_tally_count(rbbi_tally *, uint32_t, uint32_t *);
+uint32_t rbbi_c_tally_each(rbbi_tally *, uint32_t *, size_t, uint32_t *, size_t, size_t *);
 void rbbi_c_close(void *);
 
 /* The version of Unicode of the built-in tables, and what each fault is in a sentence, as
@@ -390,4 +395,49 @@ int rbbi_session_segment(rbbi_session *session, uint32_t at, uint32_t *from, uin
         *status = found.status;
     }
     return (int)answer;
+}
+
+int rbbi_tally_open(rbbi_tally *tally, rbbi_table *table, const char *text, size_t length,
+                    int unit) {
+    if (!tally || !table || (!text && length)) {
+        return RBBI_NULL;
+    }
+    rbbi_table own = RBBI_INIT;
+    int answer = share(table, &own);
+    if (answer == RBBI_OK) {
+        answer = (int)rbbi_c_tally_open(&own, from(text), length, (uint32_t)unit, tally);
+        rbbi_c_close(&own);
+    }
+    return answer;
+}
+
+void rbbi_tally_close(rbbi_tally *tally) {
+    if (tally) {
+        rbbi_c_close(tally);
+    }
+}
+
+int rbbi_tally_replace(rbbi_tally *tally, uint32_t at, uint32_t remove, const char *insert,
+                       size_t length) {
+    if (!tally || (!insert && length)) {
+        return RBBI_NULL;
+    }
+    return (int)rbbi_c_tally_replace(tally, at, remove, from(insert), length);
+}
+
+int rbbi_tally_segments(rbbi_tally *tally, uint32_t *count) {
+    return tally && count ? (int)rbbi_c_tally_segments(tally, count) : RBBI_NULL;
+}
+
+int rbbi_tally_count(rbbi_tally *tally, uint32_t status, uint32_t *count) {
+    return tally && count ? (int)rbbi_c_tally_count(tally, status, count) : RBBI_NULL;
+}
+
+int rbbi_tally_each(rbbi_tally *tally, uint32_t *statuses, uint32_t *counts, size_t room,
+                    size_t *count) {
+    if (!tally || (!(statuses && counts) && room) || !count) {
+        return RBBI_NULL;
+    }
+    return (int)rbbi_c_tally_each(tally, room ? statuses : nothing, room, room ? counts : none,
+                                  room, count);
 }

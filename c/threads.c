@@ -1,7 +1,8 @@
 /*
- * Several threads pass the handle of one table at once: each opens sessions by it, asks, edits, writes
- * the table and makes handles of its own. All find what the first thread finds alone. bin/check-c
- * runs this under ThreadSanitizer, and under helgrind, which sees the proved code as well.
+ * Several threads pass the handle of one table at once: each opens sessions and a tally by it,
+ * asks, edits, writes the table and makes handles of its own. All find what the first thread finds
+ * alone. bin/check-c runs this under ThreadSanitizer, and under helgrind, which sees the proved
+ * code as well.
  */
 #include <pthread.h>
 #include <rbbi.h>
@@ -37,12 +38,17 @@ static found round_of(void) {
     char file[1 << 17];
     rbbi_table own = RBBI_INIT;
     rbbi_session one = RBBI_INIT, other = RBBI_INIT;
+    rbbi_tally tally = RBBI_INIT;
+    uint32_t segments = 0;
     result.wrong |= rbbi_session_open(&one, &table, text, sizeof text - 1, RBBI_UTF8) != RBBI_OK;
     result.wrong |= rbbi_table_share(&own, &table) != RBBI_OK;
     result.wrong |= rbbi_session_open(&other, &own, text, sizeof text - 1, RBBI_UTF16) != RBBI_OK;
+    result.wrong |= rbbi_tally_open(&tally, &table, text, sizeof text - 1, RBBI_UTF8) != RBBI_OK;
+    result.wrong |= rbbi_tally_segments(&tally, &segments) != RBBI_OK;
+    rbbi_tally_close(&tally);
     rbbi_table_close(&own);
     result.wrong |= rbbi_table_write(&table, file, sizeof file, &result.length) != RBBI_OK;
-    result.sum = sum_of(&one, &result.wrong) + sum_of(&other, &result.wrong);
+    result.sum = sum_of(&one, &result.wrong) + sum_of(&other, &result.wrong) + segments;
     result.wrong |= rbbi_session_replace(&one, 3, 1, "no", 2) != RBBI_OK;
     result.sum = result.sum * 31 + sum_of(&one, &result.wrong);
     rbbi_session_close(&one);

@@ -2,8 +2,9 @@
  * rbbi: text boundaries (characters, words, sentences, lines) by break rules, also while the text
  * is edited. The engine is proved; docs/c.md is an introduction.
  *
- * HANDLES. A table, a session and a list of property files are each held by a handle: a struct of
- * one pointer that you own, on the stack or in a struct of yours. A handle begins as all zero:
+ * HANDLES. A table, a session, a tally and a list of property files are each held by a handle: a
+ * struct of one pointer that you own, on the stack or in a struct of yours. A handle begins as all
+ * zero:
  *
  *     rbbi_table table = RBBI_INIT;
  *
@@ -13,28 +14,29 @@
  * struct that was never set, using or closing two copies of a handle, writing to what is inside,
  * and passing one address for two parameters.
  *
- * OWNERSHIP. A session keeps the table that it was opened with: tables are counted. So a table's
- * handle may be closed while sessions use the table, in any order. Texts, rules, files and names
- * that you pass are copied or read during the call, and stay yours. Only handles have to be closed;
- * nothing else that you receive has to be freed.
+ * OWNERSHIP. A session or a tally keeps the table that it was opened with: tables are counted. So
+ * a table's handle may be closed while they use the table, in any order. Texts, rules, files and
+ * names that you pass are copied or read during the call, and stay yours. Only handles have to be
+ * closed; nothing else that you receive has to be freed.
  *
  * THREADS. Several threads may pass one table's handle to rbbi_table_share, rbbi_table_write and
- * rbbi_session_open at once: nothing changes a table. These calls take turns, under a lock that is
- * the library's only state, just to count one more owner. All other calls need their handles to
- * themselves: one thread at a time uses a session or a list of property files, and no thread uses a
- * handle while another opens or closes it. Sessions of one table may be used side by side. Handles
- * may move from thread to thread, under a lock or when a thread starts or ends.
+ * the calls that open a session or a tally at once: nothing changes a table. These calls take
+ * turns, under a lock that is the library's only state, just to count one more owner. All other
+ * calls need their handles to themselves: one thread at a time uses a session, a tally or a list
+ * of property files, and no thread uses a handle while another opens or closes it. Sessions and
+ * tallies of one table may be used side by side. Handles may move from thread to thread, under a
+ * lock or when a thread starts or ends.
  *
- * UNITS. All places and lengths of a session count the unit that it was opened in: bytes of UTF-8,
- * 16-bit units of UTF-16, or characters (code points). They begin at 0. A text has at most
- * 16,777,216 characters.
+ * UNITS. All places and lengths of a session or a tally count the unit that it was opened in:
+ * bytes of UTF-8, 16-bit units of UTF-16, or characters (code points). They begin at 0. A text has
+ * at most 16,777,216 characters.
  *
  * ANSWERS. Each call but the close calls returns an int: RBBI_OK, RBBI_DONE, or an error. An error
  * leaves every handle and every number as it was, with three exceptions: RBBI_FAULT writes the
  * fault, RBBI_LONE the number of the surrogate, and RBBI_ROOM the length and as much as fits. No
  * call ends the process, writes or reads a file, or waits, but for the turns above. Opening,
- * forking, editing, compiling, loading, writing and rbbi_session_text allocate memory. Questions
- * don't; that isn't proved, but seen by reading the code.
+ * forking, editing, compiling, loading, writing, rbbi_session_text and rbbi_tally_each allocate
+ * memory. Other questions don't; that isn't proved, but seen by reading the code.
  */
 #ifndef RBBI_H
 #define RBBI_H
@@ -47,9 +49,9 @@ extern "C" {
 #endif
 
 /* The version of this header: new calls raise its second number, changed ones its first. */
-#define RBBI_VERSION "2.3.0"
+#define RBBI_VERSION "2.4.0"
 
-/* A list of property files, a table and a session. */
+/* A list of property files, a table, a session and a tally. */
 typedef struct rbbi_files {
     void *held;
 } rbbi_files;
@@ -61,6 +63,10 @@ typedef struct rbbi_table {
 typedef struct rbbi_session {
     void *held;
 } rbbi_session;
+
+typedef struct rbbi_tally {
+    void *held;
+} rbbi_tally;
 
 /* A handle that holds nothing. */
 /* clang-format off */
@@ -266,6 +272,34 @@ int rbbi_session_boundaries_before(rbbi_session *session, uint32_t from, uint32_
    its end. If `at` is inside a character, that is the one meant. RBBI_DONE if `at` is at the end of the text or past it. The cursor stays where it is. */
 int rbbi_session_segment(rbbi_session *session, uint32_t at, uint32_t *from, uint32_t *to,
                          uint32_t *status);
+
+/* ---- tallies: how many segments of a text have each status, kept while the text is edited. A
+   segment lies between two neighbouring boundaries, and counts under the largest status of its
+   end ---- */
+
+/* Opens a tally of a text in UTF-8 of `length` bytes, with the places of edits in `unit`. It
+   searches the whole text once. `text` may be NULL if `length` is 0. */
+int rbbi_tally_open(rbbi_tally *tally, rbbi_table *table, const char *text, size_t length,
+                    int unit);
+
+void rbbi_tally_close(rbbi_tally *tally);
+
+/* Replaces `remove` units from `at` on by the `length` bytes of UTF-8 at `insert`, and counts again
+   what that touches. */
+int rbbi_tally_replace(rbbi_tally *tally, uint32_t at, uint32_t remove, const char *insert,
+                       size_t length);
+
+/* How many segments there are. */
+int rbbi_tally_segments(rbbi_tally *tally, uint32_t *count);
+
+/* How many segments have `status` as their largest one. */
+int rbbi_tally_count(rbbi_tally *tally, uint32_t status, uint32_t *count);
+
+/* Writes the statuses that some segment has as its largest one, in increasing order, into
+   `statuses`, how many segments have each into `counts`, each of `room` numbers, and how many
+   statuses there are to `count`. RBBI_ROOM: there are more. Both may be NULL if `room` is 0. */
+int rbbi_tally_each(rbbi_tally *tally, uint32_t *statuses, uint32_t *counts, size_t room,
+                    size_t *count);
 
 #ifdef __cplusplus
 }

@@ -39,6 +39,19 @@ class Sessions(unittest.TestCase):
                 self.assertEqual([segment.end for segment in session], places)
                 self.assertEqual(len(session), places[-1])
 
+    def test_a_tally_counts_while_the_text_is_edited(self):
+        with self.table.tally("can't 32 \u00e4", Unit.UTF8) as tally:
+            self.assertEqual((tally.segments(), tally.counts()), (5, {0: 2, 100: 1, 200: 2}))
+            with self.assertRaises(Error) as caught:
+                tally.replace(10, 1, '')
+            self.assertEqual(caught.exception.answer, Answer.INSIDE)
+            tally.replace(5, 1, '')
+            self.assertEqual((tally.count(200), tally.count(100), tally.count(7)), (2, 1, 0))
+            self.assertEqual(list(tally.counts().items()), [(0, 1), (100, 1), (200, 2)])
+        rules = ''.join(f'[{chr(97 + i)}] {{{i + 1}}};' for i in range(20))
+        with Table.compile(rules) as table, table.tally('abcdefghijklmnopqrst') as tally:
+            self.assertEqual(tally.counts(), {i + 1: 1 for i in range(20)})
+
     def test_each_question_moves_the_cursor(self):
         with self.table.session(b'ab 12') as session:
             self.assertEqual((session.first(), session.current()), (0, 0))

@@ -1,7 +1,7 @@
 -- Boundaries that are written one after another, as many as there is room for.
 use Rattle.std.proofs.Common.{◌≡◌, ℕ, ◌+◌, ◌<◌, ◌≤◌, true, false, cond, ltb, leb, Bool, List, [], ◌∷◌, ◌++◌, length}
-use Rattle.std.proofs.Common.{get_or, set, take, drop, map, reverse, filter, min}
-use Rattle.std.proofs.Common.{refl, sym, ap, ◌∙◌, subst, ⊎_elim, zero, suc, arith, Option}
+use Rattle.std.proofs.Common.{get_or, set, take, drop, map, reverse, filter}
+use Rattle.std.proofs.Common.{refl, sym, ap, ◌∙◌, subst, ⊎_elim, zero, suc, arith}
 use Rattle.std.specs.Prelude.{◌&&◌, slice_index}
 use Rattle.std.specs.List.{AllByRecursion}
 use Rattle.std.proofs.lemmas.Bool.{cases_lt, lt-ltb, le-ltb}
@@ -16,7 +16,6 @@ use Rattle.rbbi_model.proofs.Lists.{all_through}
 use Rattle.rbbi_model.proofs.Measured.{turned}
 use Rattle.rbbi_c.specs.Copying.{IsCopied}
 use Rattle.rbbi_c.specs.Ranges.{past_up_to, before_down_to, greatest_statuses, Columns, columns, ListsOut}
-use Rattle.rbbi_c.specs.declared.listing.Listing.{Listing}
 
 -- nothing is copied at first
 pub copied_none : (old : List ℕ) → IsCopied [] old old
@@ -49,6 +48,15 @@ copied_more list old now y copied =
     })
     (cases_lt n (length now))
 
+-- one more of a list is copied, by a number of each item
+pub copied_next : {X : Type 0} (f : X → ℕ) (all : List X) (old now : List ℕ) (i : ℕ) (d : X) → i < length all → IsCopied (map f (take i all)) old now
+    → IsCopied (map f (take (i + 1) all)) old (set now i (f (get_or all i d)))
+copied_next f all old now i d inside copied =
+    let x = get_or all i d in
+    let many : length (map f (take i all)) ≡ i = length-map (take i all) f ∙ omega (arith, length-take i all, inside) in
+    subst (λ l. IsCopied l old (set now i (f x))) (sym (ap (map f) (take_more all i d inside) ∙ map-append f (take i all) (x ∷ [])))
+    (subst (λ n. IsCopied (map f (take i all) ++ f x ∷ []) old (set now n (f x))) many (copied_more (map f (take i all)) old now (f x) copied))
+
 -- the first of these boundaries were written, and the others are left
 pub record AreWritten (all : List Boundary) (from : ℕ) (before now : Columns) (count resume : ℕ) (rest : List Boundary) : Type 0 where
   pub within : count ≤ length before.places
@@ -79,7 +87,6 @@ record GoesOnWith (all : List Boundary) (count : ℕ) (b : Boundary) (rest : Lis
   inside : count < length all
   here : get_or all count b ≡ b
   back : drop (count + 1) all ≡ rest
-  front : take (count + 1) all ≡ take count all ++ b ∷ []
 
 goes_on_with : (all : List Boundary) (count : ℕ) (b : Boundary) (rest : List Boundary) → drop count all ≡ b ∷ rest → GoesOnWith all count b rest
 goes_on_with all count b rest is =
@@ -91,7 +98,6 @@ goes_on_with all count b rest is =
       inside = inside;
       here = here;
       back = ap (λ l. drop 1 l) parts;
-      front = take_more all count b inside ∙ ap (λ c. take count all ++ c ∷ []) here;
     }
 
 get_or_map : (f : Boundary → ℕ) (all : List Boundary) (i : ℕ) (b : Boundary) → i < length all → get_or (map f all) i 0 ≡ f (get_or all i b)
@@ -100,9 +106,6 @@ get_or_map f (c ∷ all) zero b inside = refl
 get_or_map f (c ∷ all) (suc i) b inside = get_or_map f all i b (omega (arith, inside))
 
 module _ (all : List Boundary) (from : ℕ) (before now : Columns) (count resume : ℕ) where
-  length_written : (f : Boundary → ℕ) → count ≤ length all → length (map f (take count all)) ≡ count
-  length_written f some = length-map (take count all) f ∙ (omega (arith, length-take count all, some))
-
   -- one boundary more is written
   pub written_more : (b : Boundary) (rest : List Boundary) → AreWritten all from before now count resume (b ∷ rest) → count < length before.places
       → AreWritten all from before (columns (set now.places count b.at) (set now.statuses count (largest b.statuses))) (count + 1) b.at rest
@@ -114,14 +117,10 @@ module _ (all : List Boundary) (from : ℕ) (before now : Columns) (count resume
         within = omega (arith, room);
         some = omega (arith, on.inside);
         rest_is = on.back;
-        in_places = subst (λ l. IsCopied l before.places (set now.places count b.at)) (sym (ap (map at) on.front ∙ map-append at (take count all) (b ∷ [])))
-            (subst (λ n. IsCopied (places (take count all) ++ b.at ∷ []) before.places (set now.places n b.at)) (length_written at so_far.some)
-            (copied_more (places (take count all)) before.places now.places b.at so_far.in_places));
-        in_statuses = subst (λ l. IsCopied l before.statuses (set now.statuses count (largest b.statuses)))
-            (sym (ap (map status) on.front ∙ map-append status (take count all) (b ∷ [])))
-            (subst (λ n. IsCopied (greatest_statuses (take count all) ++ largest b.statuses ∷ []) before.statuses (set now.statuses n (largest b.statuses)))
-            (length_written status so_far.some)
-            (copied_more (greatest_statuses (take count all)) before.statuses now.statuses (largest b.statuses) so_far.in_statuses));
+        in_places = subst (λ c. IsCopied (places (take (count + 1) all)) before.places (set now.places count c.at)) on.here
+            (copied_next at all before.places now.places count b on.inside so_far.in_places);
+        in_statuses = subst (λ c. IsCopied (greatest_statuses (take (count + 1) all)) before.statuses (set now.statuses count (largest c.statuses))) on.here
+            (copied_next status all before.statuses now.statuses count b on.inside so_far.in_statuses);
         resume_is = sym (next_place count on.here on.inside);
       }
     where

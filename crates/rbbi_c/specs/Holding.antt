@@ -3,8 +3,9 @@ use Rattle.std.specs.Prelude.{◌≡◌, List, Option, None, Some}
 use Rattle.rbbi_model.specs.Tables.{Table as BreakTable}
 use Rattle.rbbi_props.specs.Rows.{File}
 use Rattle.rbbi_session.specs.UnitSessions.{UnitSession}
+use Rattle.rbbi_c.specs.Tallying.{UnitTally}
 use Rattle.rbbi_c.specs.declared.held.Held.{Held}
-use Rattle.rbbi_c.specs.declared.held.Held.TheVariants.{Properties, Table, Session}
+use Rattle.rbbi_c.specs.declared.held.Held.TheVariants.{Properties, Table, Session, Tally}
 
 -- the session that it holds
 abbrev pub session_in : Option Held → Option UnitSession
@@ -12,6 +13,7 @@ session_in None = None
 session_in (Some (Properties files)) = None
 session_in (Some (Table table)) = None
 session_in (Some (Session session)) = Some session
+session_in (Some (Tally tally)) = None
 
 -- the table that it holds
 abbrev pub table_in : Option Held → Option BreakTable
@@ -19,6 +21,7 @@ table_in None = None
 table_in (Some (Properties files)) = None
 table_in (Some (Table table)) = Some table
 table_in (Some (Session session)) = None
+table_in (Some (Tally tally)) = None
 
 -- the property files that it holds
 abbrev pub files_in : Option Held → Option (List File)
@@ -26,6 +29,15 @@ files_in None = None
 files_in (Some (Properties files)) = Some files
 files_in (Some (Table table)) = None
 files_in (Some (Session session)) = None
+files_in (Some (Tally tally)) = None
+
+-- the tally that it holds
+abbrev pub tally_in : Option Held → Option UnitTally
+tally_in None = None
+tally_in (Some (Properties files)) = None
+tally_in (Some (Table table)) = None
+tally_in (Some (Session session)) = None
+tally_in (Some (Tally tally)) = Some tally
 
 -- it holds something
 abbrev pub HoldsSomething : Option Held → Type 0

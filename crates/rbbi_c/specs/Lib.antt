@@ -16,4 +16,6 @@ pub mod Parts
 pub mod Wide
 pub mod Changing
 pub mod Forking
+pub mod Tallying
+pub mod TallyCalls
 pub mod inner

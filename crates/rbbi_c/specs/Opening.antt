@@ -21,6 +21,13 @@ IsNoSession table bytes unit code =
     ((code ≡ 3) × (table_in table ≡ None)) ⊎ ((code ≡ 4) × (unit_named unit ≡ None)) ⊎ IsNoText bytes code
     ⊎ ((code ≡ 7) × (most_characters < length (chars bytes))) ⊎ (code ≡ 9)
 
+-- the table of the handle, the unit of the number, and the text that the bytes spell
+pub record IsSource (table : Option Held) (bytes : List ℕ) (unit : ℕ) (by_table : BreakTable) (in_unit : TextUnit) (text : List ℕ) : Type 0 where
+  pub held : table_in table ≡ Some by_table
+  pub named : unit_named unit ≡ Some in_unit
+  pub utf8 : IsUtf8 bytes
+  pub text_is : text ≡ chars bytes
+
 -- a session by the table of the handle over the text that the bytes spell, with places in the unit of the number
 pub record IsOpenedFrom (table : Option Held) (bytes : List ℕ) (unit : ℕ) (session : UnitSession) : Type 0 where
   pub by_table : BreakTable

@@ -4,3 +4,4 @@ pub mod Desks
 pub mod Lending
 pub mod Removing
 pub mod Stretches
+pub mod Tallied

@@ -8,6 +8,7 @@ use crate::codes;
 use crate::handle::Handle;
 use crate::lending::lend;
 use crate::part::copy_of;
+use crate::span::span_of;
 use rbbi_change::{Before, Edit, changed};
 use rbbi_session::{UnitEditErr, UnitSession, Walk};
 use rbbi_table::{FrontPlaces, Table};
@@ -49,21 +50,10 @@ fn removed_by<L: Ledger>(
     ensures { MatchResult result (IsRemoved unit text.now at remove)
         (IsNotRemoved unit text.now at remove) }
 {
-    let units = text.offset(unit, text.len());
-    if at > units || remove > units - at {
-        return Err(UnitEditErr::Outside);
-    }
-    let first = text.index(unit, at);
-    if !first.whole {
-        return Err(UnitEditErr::Inside);
-    }
-    let end = text.index(unit, at + remove);
-    if !end.whole {
-        return Err(UnitEditErr::Inside);
-    }
-    match copy_of(alloc, text, first.at, end.at, steps) {
+    let span = span_of(text, unit, at, remove)?;
+    match copy_of(alloc, text, span.first, span.end, steps) {
         Ok(text) => Ok(Removed {
-            first: first.at,
+            first: span.first,
             text,
         }),
         Err(_) => Err(UnitEditErr::Memory),

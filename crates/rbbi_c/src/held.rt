@@ -1,6 +1,7 @@
 //! What a handle holds.
 use crate::desk::Desk;
 use crate::shared::SharedTable;
+use crate::tally_desk::TallyDesk;
 use rbbi_props::PropTable;
 
 /// What a handle holds.
@@ -12,4 +13,6 @@ pub enum Held {
     Table(SharedTable),
     /// A session.
     Session(Desk),
+    /// A tally.
+    Tally(TallyDesk),
 }

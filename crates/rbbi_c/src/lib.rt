@@ -28,8 +28,11 @@ mod rules;
 mod segment;
 mod sessions;
 mod shared;
+mod span;
 mod stretch;
 mod tables;
+mod tally_desk;
+mod tallying;
 #[cfg(test)]
 mod tests;
 mod wide;
@@ -48,4 +51,8 @@ pub use rules::{rbbi_c_properties, rbbi_c_properties_add, rbbi_c_table_compile};
 pub use segment::Segment;
 pub use sessions::{rbbi_c_close, rbbi_c_length, rbbi_c_open, rbbi_c_replace, rbbi_c_statuses};
 pub use tables::{rbbi_c_table_load, rbbi_c_table_share, rbbi_c_table_write};
+pub use tallying::{
+    rbbi_c_tally_count, rbbi_c_tally_each, rbbi_c_tally_open, rbbi_c_tally_replace,
+    rbbi_c_tally_segments,
+};
 pub use wide::{rbbi_c_open_utf16, rbbi_c_replace_utf16};

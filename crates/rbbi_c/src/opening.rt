@@ -1,6 +1,6 @@
 //! Tables in handles, and sessions by them.
 ghost use Rattle.std.specs.Prelude.{◌≡◌, ◌⊎◌, None, Some, MatchResult, MatchBool, IsSome};
-ghost use Rattle.rbbi_c.specs.Opening.{unit_named, IsNoSession, IsOpenedFrom};
+ghost use Rattle.rbbi_c.specs.Opening.{unit_named, IsSource, IsNoSession, IsOpenedFrom};
 ghost use Rattle.rbbi_c.specs.Holding as holding;
 
 use crate::answering::text_of;
@@ -84,6 +84,38 @@ pub(crate) fn table_in(alloc: Global, table: &mut Handle) -> Result<SharedTable,
     shared
 }
 
+/// What a session or a tally is opened by.
+pub(crate) struct Source {
+    pub(crate) table: SharedTable,
+    pub(crate) unit: Unit,
+    pub(crate) text: Pieces,
+}
+
+/// The table of a handle, the unit of a number and the text of the bytes, or the code of the
+/// refusal.
+pub(crate) fn source_of(
+    alloc: Global,
+    table: &mut Handle,
+    text: &[u8],
+    unit: u32,
+) -> Result<Source, u32>
+    ensures told { MatchResult result (λ source.
+        IsSource table.old.held text.now unit source.table source.unit source.text)
+        (IsNoSession table.old.held text.now unit) }
+    ensures same { table.new.held ≡ table.old.held }
+{
+    let Some(unit) = unit_of(unit) else {
+        return Err(codes::UNIT);
+    };
+    let text = text_of(text)?;
+    let table = table_in(alloc, table)?;
+    match Pieces::new(alloc, text) {
+        Ok(text) => Ok(Source { table, unit, text }),
+        Err(TextErr::TooManyChars) => Err(codes::TOO_LONG),
+        Err(TextErr::Memory) => Err(codes::MEMORY),
+    }
+}
+
 /// The session that is asked for, or the code of the refusal.
 pub(crate) fn session_of(
     alloc: Global,
@@ -95,17 +127,8 @@ pub(crate) fn session_of(
         (IsNoSession table.old.held text.now unit) }
     ensures same { table.new.held ≡ table.old.held }
 {
-    let Some(unit) = unit_of(unit) else {
-        return Err(codes::UNIT);
-    };
-    let text = text_of(text)?;
-    let shared = table_in(alloc, table)?;
-    let pieces = match Pieces::new(alloc, text) {
-        Ok(pieces) => pieces,
-        Err(TextErr::TooManyChars) => return Err(codes::TOO_LONG),
-        Err(TextErr::Memory) => return Err(codes::MEMORY),
-    };
-    match Desk::open(alloc, shared, pieces, unit) {
+    let Source { table, unit, text } = source_of(alloc, table, text, unit)?;
+    match Desk::open(alloc, table, text, unit) {
         Ok(desk) => Ok(desk),
         Err(_) => Err(codes::MEMORY),
     }

@@ -1,4 +1,4 @@
-//! A table that several sessions share.
+//! A table that several sessions and tallies share.
 ghost use Rattle.std.specs.Prelude.{◌≡◌, IfOk};
 
 use rbbi_table::Table;
@@ -6,7 +6,7 @@ use std::alloc::{AllocError, Global};
 use std::marker::Model;
 use std::sync::Arc;
 
-/// A table with the count of its owners, which are handles and sessions. The last one frees it.
+/// A table with the count of its owners, which are handles, sessions and tallies. The last one frees it.
 #[derive(Drop)]
 pub struct SharedTable {
     counted: Arc<Table>,

@@ -12,6 +12,10 @@ use crate::rules::{rbbi_c_properties, rbbi_c_properties_add, rbbi_c_table_compil
 use crate::segment::Segment;
 use crate::sessions::{rbbi_c_close, rbbi_c_length, rbbi_c_open, rbbi_c_replace, rbbi_c_statuses};
 use crate::tables::{rbbi_c_table_load, rbbi_c_table_share, rbbi_c_table_write};
+use crate::tallying::{
+    rbbi_c_tally_count, rbbi_c_tally_each, rbbi_c_tally_open, rbbi_c_tally_replace,
+    rbbi_c_tally_segments,
+};
 use crate::wide::rbbi_c_replace_utf16;
 use std::process::Abort;
 use std::rt::Memory;
@@ -210,6 +214,48 @@ fn a_session_outlives_its_tables_handle(rt: HostRuntime) {
     check_utf16(&rt, memory, &mut session);
     check_edits(&rt, memory, &mut session);
     done(&rt, session);
+}
+
+/// Lists the counts of a tally whose segments have the statuses 0 and 7, with room for one.
+fn check_each(rt: &impl Abort, memory: Memory, tally: &mut Handle) {
+    let mut statuses = [9; 1];
+    let mut counts = [9; 1];
+    let mut number = 0;
+    let code = rbbi_c_tally_each(memory, tally, &mut statuses, &mut counts, &mut number);
+    assert!(rt; code == codes::ROOM && number == 2 && statuses[0] == 0 && counts[0] == 1);
+}
+
+/// Counts the segments of a tally, and those with the status 7.
+fn check_counts(rt: &impl Abort, memory: Memory, tally: &mut Handle, all: u32, sevens: u32) {
+    let mut number = 99;
+    let code = rbbi_c_tally_segments(memory, tally, &mut number);
+    assert!(rt; code == codes::OK && number == all);
+    let code = rbbi_c_tally_count(memory, tally, 7, &mut number);
+    assert!(rt; code == codes::OK && number == sevens);
+}
+
+#[test]
+fn a_tally_counts_while_it_is_edited(rt: HostRuntime) {
+    let memory = rt.memory();
+    let mut fault = NO_FAULT;
+    let mut name = [0; 4];
+    let (mut table, _code) = compiled(&rt, b"\\p{X=Y}+{7};\n.;", &mut fault, &mut name);
+    let mut tally = Handle::closed();
+    let text = "aa\u{e9}a".as_bytes();
+    assert!(rt; rbbi_c_tally_open(memory, &mut table, text, 1, &mut tally) == codes::OK);
+    rbbi_c_close(memory, &mut table);
+    done(&rt, table);
+    check_counts(&rt, memory, &mut tally, 3, 2);
+    check_each(&rt, memory, &mut tally);
+    // The U+00E9 has two bytes, 2 and 3.
+    assert!(rt; rbbi_c_tally_replace(memory, &mut tally, 2, 1, b"a") == codes::INSIDE);
+    assert!(rt; rbbi_c_tally_replace(memory, &mut tally, 2, 4, b"a") == codes::OUTSIDE);
+    check_counts(&rt, memory, &mut tally, 3, 2);
+    assert!(rt; rbbi_c_tally_replace(memory, &mut tally, 2, 2, b"a") == codes::OK);
+    check_counts(&rt, memory, &mut tally, 1, 1);
+    let mut number = 99;
+    assert!(rt; rbbi_c_next(memory, &mut tally, &mut number) == codes::HANDLE && number == 99);
+    done(&rt, tally);
 }
 
 #[test]

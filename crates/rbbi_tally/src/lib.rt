@@ -9,10 +9,12 @@ mod counts;
 mod edit;
 mod kept;
 mod open;
+mod paused;
 mod piece;
 mod search;
 mod spot;
 mod tally;
 
 pub use counts::{Counts, ValueCount};
+pub use paused::Paused;
 pub use tally::Tally;

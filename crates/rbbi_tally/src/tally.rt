@@ -8,12 +8,11 @@ ghost use Rattle.rbbi_tally.specs.Tallies.{boundaries_of, EditAnswers, EditReads
 use crate::commit::commit;
 use crate::counts::{Counts, count_of, total, values_of};
 use crate::edit::Edit;
-use crate::kept::Kept;
 use crate::open::segments_of;
-use crate::piece::Piece;
+use crate::paused::Counted;
 use crate::search::search_again;
 use crate::spot::{first_reaching, place_at};
-use rbbi_table::{FrontPlaces, Table};
+use rbbi_table::Table;
 use rbbi_text::{EditErr, EditText, Steps, check_edit};
 use std::alloc::{AllocError, Global};
 use std::marker::Model;
@@ -31,17 +30,8 @@ use std::sync::ledger::Ledger;
 /// had, and up to twice that once it has grown.
 #[derive(Drop)]
 pub struct Tally<'a, T: EditText> {
-    table: &'a Table,
-    text: T,
-    pieces: Vec<Piece>,
-    /// How many segments have each status list.
-    counts: Vec<u32>,
-    /// Scratch space of searches.
-    marks: FrontPlaces,
-    /// Room for what an edit finds. It is kept from one edit to the next.
-    room: Vec<Kept>,
-    /// Where the memory of further pieces comes from.
-    alloc: Global,
+    pub(crate) table: &'a Table,
+    pub(crate) counted: Box<Counted<T>>,
 }
 
 impl<'a, T: EditText> Model for Tally<'a, T> {
@@ -51,10 +41,14 @@ impl<'a, T: EditText> Model for Tally<'a, T> {
 
     ghost use Rattle.rbbi_tally.specs.inner.Tallied.{IsTallied};
 
-    ghost view = { λ tally. record { table = tally.table.now; text = T.characters tally.text } };
+    ghost view = { λ tally. record {
+      table = tally.table.now;
+      text = T.characters tally.counted.value.text;
+    } };
 
-    ghost invariant = { λ tally. IsTallied tally.table.now (T.characters tally.text)
-        tally.pieces.items tally.counts.items tally.marks };
+    ghost invariant = { λ tally. let counted = tally.counted.value in
+        IsTallied tally.table.now (T.characters counted.text) counted.pieces.items
+        counted.counts.items counted.marks };
 }
 
 impl<'a, T: EditText + Drop> Tally<'a, T> {
@@ -73,15 +67,18 @@ impl<'a, T: EditText + Drop> Tally<'a, T> {
             steps.old steps.new }
     {
         let opened = segments_of(alloc, table, &text, steps)?;
-        Ok(Tally {
-            table,
+        let counted = Counted {
             text,
             pieces: opened.pieces,
             counts: opened.counts,
             marks: opened.marks,
             room: Vec::new(alloc),
             alloc,
-        })
+        };
+        match Box::new(alloc, counted) {
+            Ok(counted) => Ok(Tally { table, counted }),
+            Err(_) => Err(AllocError),
+        }
     }
 }
 
@@ -106,38 +103,40 @@ impl<'a, T: EditText> Tally<'a, T> {
             steps.old steps.new }
     {
         self.table.valid();
-        let end = self.text.len();
+        let counted = &mut *self.counted;
+        let end = counted.text.len();
         let inserted = check_edit(end as usize, at, remove, insert)?;
         let edit = Edit {
             at,
             removed: remove,
             inserted,
         };
-        let first = first_reaching(&self.pieces, at);
-        let start = place_at(&self.pieces, first, end);
+        let first = first_reaching(&counted.pieces, at);
+        let start = place_at(&counted.pieces, first, end);
         // From `start` on the new text has at most one boundary a character, and one more.
-        self.room.clear();
-        self.room
+        counted.room.clear();
+        counted
+            .room
             .reserve((end - remove + inserted - start) as usize)?;
-        self.pieces.reserve(1)?;
-        self.text.replace(at, remove, insert)?;
+        counted.pieces.reserve(1)?;
+        counted.text.replace(at, remove, insert)?;
         let met = search_again(
             self.table,
-            &self.text,
-            &self.pieces,
+            &counted.text,
+            &counted.pieces,
             first,
             start,
             edit,
             end,
-            &mut self.room,
-            &mut self.counts,
-            &mut self.marks,
+            &mut counted.room,
+            &mut counted.counts,
+            &mut counted.marks,
             steps,
         );
         commit(
-            self.alloc,
-            &mut self.pieces,
-            &mut self.room,
+            counted.alloc,
+            &mut counted.pieces,
+            &mut counted.room,
             start,
             first,
             met.spot,
@@ -151,8 +150,9 @@ impl<'a, T: EditText> Tally<'a, T> {
         ensures { result ≡ segment_count (boundaries_of self.now) }
     {
         self.table.valid();
-        let _short = self.text.len();
-        total(&self.counts)
+        let counted = &*self.counted;
+        let _short = counted.text.len();
+        total(&counted.counts)
     }
 
     /// How many segments have a value as the largest of their statuses.
@@ -160,8 +160,9 @@ impl<'a, T: EditText> Tally<'a, T> {
         ensures { result ≡ count (boundaries_of self.now) value }
     {
         self.table.valid();
-        let _short = self.text.len();
-        count_of(self.table, &self.counts, value)
+        let counted = &*self.counted;
+        let _short = counted.text.len();
+        count_of(self.table, &counted.counts, value)
     }
 
     /// The values that some segment has as the largest of its statuses, by rising values, each with
@@ -170,14 +171,15 @@ impl<'a, T: EditText> Tally<'a, T> {
         ensures { IfOk result (λ counts. AreCounts (boundaries_of self.now) counts.items) }
     {
         self.table.valid();
-        let _short = self.text.len();
-        values_of(alloc, self.table, &self.counts)
+        let counted = &*self.counted;
+        let _short = counted.text.len();
+        values_of(alloc, self.table, &counted.counts)
     }
 
     /// The text as it is now.
     pub fn text(&self) -> &T
         ensures { T.characters result.now ≡ self.now.text }
     {
-        &self.text
+        &self.counted.text
     }
 }

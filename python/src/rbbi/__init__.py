@@ -7,7 +7,7 @@
 
 Places count characters, as the places of a `str` do, unless a session is opened in another unit.
 The library is the one that RBBI_LIBRARY names, else the one in this package, else the one that the
-system's loader finds. Calls of one table or session take turns, so threads may share it.
+system's loader finds. Calls of one table, session or tally take turns, so threads may share it.
 """
 from __future__ import annotations
 
@@ -22,7 +22,7 @@ from ._library import (LIBRARY, Answer, CChange, CFault, Error, Fault, Handle, L
                        checked)
 
 __all__ = ['Answer', 'Boundaries', 'Change', 'Error', 'Fault', 'LoneSurrogate', 'Segment', 'Session',
-           'Table', 'Text', 'Unit', 'unicode_version', 'version']
+           'Table', 'Tally', 'Text', 'Unit', 'unicode_version', 'version']
 
 Text = Union[str, bytes]
 """A text: a `str`, or bytes of UTF-8."""
@@ -198,6 +198,10 @@ class Table(_Closing):
         a surrogate is in no pair.
         """
         return Session._over_utf16(self, units, unit)
+
+    def tally(self, text: Text, unit: Unit = Unit.CHARS) -> Tally:
+        """How many segments of a text have each status, with the places of edits in a unit."""
+        return Tally(self, text, unit)
 
 
 class Session(_Closing):
@@ -419,3 +423,55 @@ class Session(_Closing):
             start = end
 
     __iter__ = segments
+
+
+class Tally(_Closing):
+    """How many segments of a text have each status, kept while the text is edited.
+
+    A segment lies between two neighbouring boundaries, and counts under the greatest status of its
+    end.
+    """
+    _close = LIBRARY.rbbi_tally_close
+
+    def __init__(self, table: Table, text: Text, unit: Unit = Unit.CHARS) -> None:
+        """Opens a tally. Raises `Error` where the text has over 16,777,216 characters."""
+        super().__init__()
+        text = _bytes(text)
+        with table._lock:
+            checked(LIBRARY.rbbi_tally_open(self._ref, table._ref, text, len(text), unit))
+
+    def replace(self, at: int, remove: int, insert: Text) -> None:
+        """Puts `insert` in place of `remove` units from `at` on, and counts again what that touches.
+
+        Raises `Error` where the edit reaches past the end, or begins or ends inside of a character.
+        """
+        insert = _bytes(insert)
+        with self._lock:
+            checked(LIBRARY.rbbi_tally_replace(self._ref, _number(at), _number(remove), insert,
+                                               len(insert)))
+
+    def segments(self) -> int:
+        """How many segments there are."""
+        count = ctypes.c_uint32()
+        with self._lock:
+            checked(LIBRARY.rbbi_tally_segments(self._ref, ctypes.byref(count)))
+        return count.value
+
+    def count(self, status: int) -> int:
+        """How many segments have a status as their greatest one."""
+        count = ctypes.c_uint32()
+        with self._lock:
+            checked(LIBRARY.rbbi_tally_count(self._ref, _number(status), ctypes.byref(count)))
+        return count.value
+
+    def counts(self) -> dict[int, int]:
+        """The statuses that some segment has as its greatest one, in order, each with its count."""
+        room, count, answer = 8, ctypes.c_size_t(), int(Answer.ROOM)
+        with self._lock:
+            while answer == Answer.ROOM:
+                statuses, counts = (ctypes.c_uint32 * room)(), (ctypes.c_uint32 * room)()
+                answer = LIBRARY.rbbi_tally_each(self._ref, statuses, counts, room,
+                                                 ctypes.byref(count))
+                room = count.value
+        checked(answer)
+        return dict(zip(statuses[:room], counts))

@@ -141,11 +141,16 @@ def _loaded() -> Any:
         'session_boundaries': [handle, number, number, room, room, size, count, numbers],
         'session_boundaries_before': [handle, number, number, room, room, size, count, numbers],
         'session_segment': [handle, number, numbers, numbers, numbers],
+        'tally_open': [handle, handle, text, size, flag],
+        'tally_replace': [handle, number, number, text, size],
+        'tally_segments': [handle, numbers],
+        'tally_count': [handle, number, numbers],
+        'tally_each': [handle, numbers, numbers, size, count],
     }
     for name, types in taken.items():
         call = getattr(library, 'rbbi_' + name)
         call.argtypes, call.restype = types, flag
-    for name in ('files', 'table', 'session'):
+    for name in ('files', 'table', 'session', 'tally'):
         call = getattr(library, f'rbbi_{name}_close')
         call.argtypes, call.restype = [handle], None
     library.rbbi_message.argtypes, library.rbbi_fault_message.argtypes = [flag], [fault]

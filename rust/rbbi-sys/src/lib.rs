@@ -186,4 +186,29 @@ extern "C" {
         to: *mut u32,
         status: *mut u32,
     ) -> c_int;
+
+    pub fn rbbi_tally_open(
+        tally: *mut rbbi_handle,
+        table: *mut rbbi_handle,
+        text: *const c_char,
+        length: usize,
+        unit: c_int,
+    ) -> c_int;
+    pub fn rbbi_tally_close(tally: *mut rbbi_handle);
+    pub fn rbbi_tally_replace(
+        tally: *mut rbbi_handle,
+        at: u32,
+        remove: u32,
+        insert: *const c_char,
+        length: usize,
+    ) -> c_int;
+    pub fn rbbi_tally_segments(tally: *mut rbbi_handle, count: *mut u32) -> c_int;
+    pub fn rbbi_tally_count(tally: *mut rbbi_handle, status: u32, count: *mut u32) -> c_int;
+    pub fn rbbi_tally_each(
+        tally: *mut rbbi_handle,
+        statuses: *mut u32,
+        counts: *mut u32,
+        room: usize,
+        count: *mut usize,
+    ) -> c_int;
 }

@@ -15,16 +15,18 @@
 //! # }
 //! ```
 //!
-//! A [`Table`] may be used by several threads at once. A [`Session`] is used by one at a time, which
-//! `&mut` sees to, and may move to another.
+//! A [`Table`] may be used by several threads at once. A [`Session`] or a [`Tally`] is used by one at a
+//! time, which `&mut` sees to, and may move to another.
 
 mod error;
 mod session;
 mod table;
+mod tally;
 
 pub use error::{Error, Fault};
 pub use session::{Boundaries, Change, Chunks, Segment, Segments, Session, Unit};
 pub use table::{Files, Table};
+pub use tally::Tally;
 
 use std::ffi::{c_char, CStr};
 

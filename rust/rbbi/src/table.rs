@@ -1,6 +1,6 @@
 //! Property files and tables.
 use crate::error::{checked, told, Error};
-use crate::{Session, Unit};
+use crate::{Session, Tally, Unit};
 use rbbi_sys::{rbbi_handle, RBBI_INIT};
 use std::cell::UnsafeCell;
 use std::ffi::{c_int, CString};
@@ -150,6 +150,13 @@ impl Table {
     /// Refuses `Lone` where a surrogate is in no pair, and `TooLong` as [`Table::session`] does.
     pub fn session_utf16(&self, text: &[u16], unit: Unit) -> Result<Session, Error> {
         Session::open_utf16(self.handle.get(), text, unit)
+    }
+
+    /// How many segments of a text have each status, with the places of edits in a unit.
+    ///
+    /// Refuses `TooLong` where the text has more than 16,777,216 characters.
+    pub fn tally(&self, text: &str, unit: Unit) -> Result<Tally, Error> {
+        Tally::open(self.handle.get(), text, unit)
     }
 }
 

@@ -42,6 +42,18 @@ fn places_count_the_unit() {
 }
 
 #[test]
+fn a_tally_counts_while_the_text_is_edited() {
+    let table = Table::compile(RULES).unwrap();
+    let mut tally = table.tally("can't 32 \u{e4}", Unit::Utf8).unwrap();
+    assert_eq!(tally.counts(), Ok(vec![(0, 2), (100, 1), (200, 2)]));
+    assert_eq!(tally.replace(10, 1, ""), Err(Error::Inside));
+    assert_eq!(tally.replace(10, 2, ""), Err(Error::Outside));
+    assert_eq!((tally.segments(), tally.count(0)), (5, 2));
+    assert_eq!(tally.replace(5, 1, ""), Ok(()));
+    assert_eq!((tally.segments(), tally.count(0), tally.count(7)), (4, 1, 0));
+}
+
+#[test]
 fn each_question_moves_the_cursor() {
     let mut session = opened("ab 12", Unit::Chars);
     assert_eq!((session.first(), session.current()), (0, 0));

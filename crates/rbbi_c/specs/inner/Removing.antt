@@ -11,8 +11,17 @@ use Rattle.rbbi_session.specs.UnitWalks.{unit_view}
 use Rattle.rbbi_session.specs.declared.unit_error.UnitEditErr.{UnitEditErr}
 use Rattle.rbbi_session.specs.declared.unit_error.UnitEditErr.TheVariants.{Outside, Inside, TooLong, Memory}
 use Rattle.rbbi_c.specs.declared.changing.Removed.{Removed}
+use Rattle.rbbi_c.specs.declared.span.Span.{Span}
 
--- the characters that an edit removes between the places at two numbers
+-- the places at two numbers, between which an edit removes
+pub record IsSpan (unit : TextUnit) (x : List ℕ) (at removed : ℕ) (span : Span) : Type 0 where
+  pub first_is : place_at unit x at ≡ Some span.first
+  pub end_is : place_at unit x (at + removed) ≡ Some span.end
+  pub order : span.first ≤ span.end
+  pub within : span.end ≤ length x
+  pub low : at + removed ≤ offset_of unit x (length x)
+
+-- the characters that it removes
 pub record IsRemoved (unit : TextUnit) (x : List ℕ) (at removed : ℕ) (part : Removed) : Type 0 where
   pub end : ℕ
   pub first_is : place_at unit x at ≡ Some part.first

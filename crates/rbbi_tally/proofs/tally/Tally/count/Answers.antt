@@ -1,24 +1,27 @@
-use Rattle.std.proofs.Common.{length, ap, ◌∙◌, arith}
+use Rattle.std.proofs.Common.{length, sym, ap, ◌∙◌, subst, arith}
 use Rattle.rbbi_tally.specs.Counts.{count}
 use Rattle.rbbi_tally.specs.Tallies.{boundaries_of}
 use Rattle.rbbi_tally.specs.inner.Pieces.{contents}
+use Rattle.rbbi_tally.specs.inner.Tallied.{IsTallied}
 use Rattle.rbbi_tally.specs.inner.Values.{count_below}
 use Rattle.rbbi_tally.proofs.Totals.{counted_value, value_small}
 use Rattle.rbbi_tally.proofs.tally.Tally.count.Goals as goal
 
 pub count_of-requires-clause-small : goal.count_of-requires-clause-small
 count_of-requires-clause-small g c =
-    let x = g.T.Chars.characters c.self.inside.text in
+    let x = g.T.Chars.characters c.deref-counted.result.now.text in
     let table = c.self.inside.table.now in
-    let inv = c.self.invariant in
-    let few = value_small table x c.valid.ensures (contents c.self.inside.pieces.items) inv.segments c.self.inside.counts.items inv.counted c.args.value in
+    let inv = subst (λ k. IsTallied c.self.inside.table.now (g.T.Chars.characters k.text) k.pieces.items k.counts.items k.marks) (sym c.deref-counted.ensures)
+    c.self.invariant in
+    let few = value_small table x c.valid.ensures (contents c.deref-counted.result.now.pieces.items) inv.segments c.deref-counted.result.now.counts.items inv.counted c.args.value in
     omega (arith, few, c.len-short.ensures.most, ap (λ ns. count_below table ns (length table.lists) c.args.value) c.deref.ensures.value)
 
 pub returns : goal.returns
 returns g c =
-    let x = g.T.Chars.characters c.self.inside.text in
+    let x = g.T.Chars.characters c.deref-counted.result.now.text in
     let table = c.self.inside.table.now in
-    let inv = c.self.invariant in
+    let inv = subst (λ k. IsTallied c.self.inside.table.now (g.T.Chars.characters k.text) k.pieces.items k.counts.items k.marks) (sym c.deref-counted.ensures)
+    c.self.invariant in
     c.count_of.ensures ∙ ap (λ ns. count_below table ns (length table.lists) c.args.value) c.deref.ensures.value
-    ∙ counted_value table x c.valid.ensures (contents c.self.inside.pieces.items) inv.segments c.self.inside.counts.items inv.counted c.args.value
-    ∙ ap (λ tally. count (boundaries_of tally) c.args.value) c.self.view_is
+    ∙ counted_value table x c.valid.ensures (contents c.deref-counted.result.now.pieces.items) inv.segments c.deref-counted.result.now.counts.items inv.counted c.args.value
+    ∙ ap (λ tally. count (boundaries_of tally) c.args.value) (ap (λ k. record { table = c.self.inside.table.now; text = g.T.Chars.characters k.text }) c.deref-counted.ensures ∙ c.self.view_is)

@@ -1,4 +1,4 @@
-use Rattle.std.proofs.Common.{length, ap, subst, arith}
+use Rattle.std.proofs.Common.{length, sym, ap, ◌∙◌, subst, arith}
 use Rattle.std.specs.Prelude.{Vec}
 use Rattle.std.specs.Global.{Global}
 use Rattle.std.proofs.lemmas.Result.{IfOk-weaker}
@@ -6,29 +6,32 @@ use Rattle.rbbi_tally.specs.declared.counts.ValueCount.{ValueCount}
 use Rattle.rbbi_tally.specs.Counts.{AreCounts}
 use Rattle.rbbi_tally.specs.Tallies.{boundaries_of}
 use Rattle.rbbi_tally.specs.inner.Pieces.{contents}
+use Rattle.rbbi_tally.specs.inner.Tallied.{IsTallied}
 use Rattle.rbbi_tally.specs.inner.Values.{count_below, AreValues}
 use Rattle.rbbi_tally.proofs.Totals.{counted_each, value_small}
 use Rattle.rbbi_tally.proofs.tally.Tally.each.Goals as goal
 
 pub values_of-requires-clause-small : goal.values_of-requires-clause-small
 values_of-requires-clause-small g c =
-    let x = g.T.Chars.characters c.self.inside.text in
+    let x = g.T.Chars.characters c.deref-counted.result.now.text in
     let table = c.self.inside.table.now in
-    let inv = c.self.invariant in
+    let inv = subst (λ k. IsTallied c.self.inside.table.now (g.T.Chars.characters k.text) k.pieces.items k.counts.items k.marks) (sym c.deref-counted.ensures)
+    c.self.invariant in
     λ value.
-    let few = value_small table x c.valid.ensures (contents c.self.inside.pieces.items) inv.segments c.self.inside.counts.items inv.counted value in
+    let few = value_small table x c.valid.ensures (contents c.deref-counted.result.now.pieces.items) inv.segments c.deref-counted.result.now.counts.items inv.counted value in
     omega (arith, few, c.len-short.ensures.most, ap (λ ns. count_below table ns (length table.lists) value) c.deref.ensures.value)
 
 pub returns : goal.returns
 returns g c =
-    let x = g.T.Chars.characters c.self.inside.text in
+    let x = g.T.Chars.characters c.deref-counted.result.now.text in
     let table = c.self.inside.table.now in
-    let inv = c.self.invariant in
+    let inv = subst (λ k. IsTallied c.self.inside.table.now (g.T.Chars.characters k.text) k.pieces.items k.counts.items k.marks) (sym c.deref-counted.ensures)
+    c.self.invariant in
     let lists = length table.lists in
     IfOk-weaker c.values_of.result (λ (pairs : Vec ValueCount Global). AreValues (count_below table c.deref.result.now lists) pairs.items)
     (λ pairs. AreCounts (boundaries_of c.args.self.now) pairs.items)
     (λ pairs values.
-    subst (λ tally. AreCounts (boundaries_of tally) pairs.items) c.self.view_is
-    (counted_each table x c.valid.ensures (contents c.self.inside.pieces.items) inv.segments c.self.inside.counts.items inv.counted pairs.items
+    subst (λ tally. AreCounts (boundaries_of tally) pairs.items) (ap (λ k. record { table = c.self.inside.table.now; text = g.T.Chars.characters k.text }) c.deref-counted.ensures ∙ c.self.view_is)
+    (counted_each table x c.valid.ensures (contents c.deref-counted.result.now.pieces.items) inv.segments c.deref-counted.result.now.counts.items inv.counted pairs.items
     (subst (λ ns. AreValues (count_below table ns lists) pairs.items) c.deref.ensures.value values)))
     c.values_of.ensures

@@ -8,6 +8,7 @@ use Rattle.rbbi_tally.specs.inner.Segments.{AreSegments, place_of}
 use Rattle.rbbi_tally.specs.inner.Counting.{AreCountsOf, AreCounted}
 use Rattle.rbbi_tally.specs.inner.Searching.{places_to, AreMet}
 use Rattle.rbbi_tally.specs.inner.Spots.{IsFirstReaching}
+use Rattle.rbbi_tally.specs.inner.Tallied.{IsTallied}
 use Rattle.rbbi_tally.specs.inner.Pieces.{segment_of, segments_by, contents, segments_from, segments_before}
 use Rattle.rbbi_tally.proofs.PieceLists.{spot_parts}
 use Rattle.rbbi_tally.proofs.SegmentLists.{segments_parted, segments_short}
@@ -18,14 +19,21 @@ use Rattle.rbbi_tally.proofs.tally.Tally.replace.Given.{Over}
 use Rattle.rbbi_tally.proofs.tally.Tally.replace.Goals as goal
 use Rattle.rbbi_tally.proofs.tally.Tally.replace.Goals.{After-deref_mut, After-search_again-met}
 
+-- what the tally kept, in its box
+abbrev kept : (g : Over) (c : After-deref_mut g) → IsTallied c.self.inside.table.now (g.T.Chars.characters c.deref_mut-counted.result.now.text)
+    c.deref_mut-counted.result.now.pieces.items c.deref_mut-counted.result.now.counts.items c.deref_mut-counted.result.now.marks
+kept g c =
+    subst (λ k. IsTallied c.self.inside.table.now (g.T.Chars.characters k.text) k.pieces.items k.counts.items k.marks)
+    (sym c.deref_mut-counted.ensures.value) c.self.invariant
+
 -- where the old text's segments part, by the pieces as they are when the search begins
-abbrev parts : (g : Over) (c : After-deref_mut g) → Parts c.self.inside.table.now (g.T.Chars.characters c.self.inside.text)
+abbrev parts : (g : Over) (c : After-deref_mut g) → Parts c.self.inside.table.now (g.T.Chars.characters c.deref_mut-counted.result.now.text)
     (g.T.Chars.characters c.replace.new.self) (record { at = c.args.at; removed = c.args.remove; inserted = c.in_ok-inserted.inserted })
     (segments_before c.reserve-2.new.self.items c.first_reaching-first.result) (segments_from c.reserve-2.new.self.items c.first_reaching-first.result)
     c.place_at-start.result
 parts g c =
     parts_are (record { at = c.args.at; removed = c.args.remove; inserted = c.in_ok-inserted.inserted }) (chars c.args.insert.now)
-    c.first_reaching-first.result c.self.invariant c.valid.ensures c.deref.ensures.value c.first_reaching-first.ensures.first c.deref-2.ensures.value
+    c.first_reaching-first.result (kept g c) c.valid.ensures c.deref.ensures.value c.first_reaching-first.ensures.first c.deref-2.ensures.value
     c.place_at-start.ensures c.len-end.ensures.exact c.in_ok-replace.ensures.0 c.in_ok-inserted.ensures.2 c.in_ok-replace.ensures.2 c.reserve-2.ensures.items
 
 small : (g : Over) (c : After-deref_mut g) → length (g.T.Chars.characters c.replace.new.self) ≤ most_characters
@@ -34,25 +42,27 @@ small g c = omega (arith, lengths (parts g c), c.in_ok-inserted.ensures.1, c.in_
 counted : (g : Over) (c : After-deref_mut g) → AreCountsOf (length c.self.inside.table.now.lists)
     (segments_before c.reserve-2.new.self.items c.first_reaching-first.result ++ segments_from c.reserve-2.new.self.items c.first_reaching-first.result)
     c.deref_mut.result.now
-counted g c = counted_is c.first_reaching-first.result c.self.invariant c.reserve-2.ensures.items c.deref_mut.ensures.value
+counted g c = counted_is c.first_reaching-first.result (kept g c) c.reserve-2.ensures.items c.deref_mut.ensures.value
 
 met : (g : Over) (c : After-search_again-met g) → AreMet c.self.inside.table.now (g.T.Chars.characters c.replace.new.self)
     (record { at = c.args.at; removed = c.args.remove; inserted = c.in_ok-inserted.inserted }) c.place_at-start.result
-    (segments_from c.reserve-2.new.self.items c.first_reaching-first.result) (length (g.T.Chars.characters c.self.inside.text))
+    (segments_from c.reserve-2.new.self.items c.first_reaching-first.result) (length (g.T.Chars.characters c.deref_mut-counted.result.now.text))
     (segments_by c.place_at-start.result c.search_again-met.new.items.items) c.search_again-met.result.place
     (segments_from c.reserve-2.new.self.items c.search_again-met.result.spot) c.deref_mut.result.now c.search_again-met.new.counts
 met g c = met_is_of c.first_reaching-first.result c.search_again-met.result.spot c.search_again-met.ensures.met c.deref-3.ensures.value c.len-end.ensures.exact
 
 pub overflow_sub-end-2 : goal.overflow_sub-end-2
 overflow_sub-end-2 g c =
-    let x = g.T.Chars.characters c.self.inside.text in
+    let x = g.T.Chars.characters c.deref_mut-counted.result.now.text in
     let first = c.first_reaching-first.result in
-    let pieces = c.self.inside.pieces.items in
+    let pieces = c.deref_mut-counted.result.now.pieces.items in
     let value = c.deref.ensures.value in
     let reaching : IsFirstReaching c.args.at (segments_before pieces first) (segments_from pieces first) =
     subst (λ l. IsFirstReaching c.args.at (segments_before l first) (segments_from l first)) value c.first_reaching-first.ensures.first in
     let parts = segments_parted c.self.inside.table.now x 0 (length x) (segments_before pieces first) (segments_from pieces first)
-    (subst (AreSegments c.self.inside.table.now x 0 (length x)) (sym (spot_parts pieces first)) c.self.invariant.segments) in
+    (subst (AreSegments c.self.inside.table.now x 0 (length x)) (sym (spot_parts pieces first))
+    (subst (λ k. AreSegments c.self.inside.table.now (g.T.Chars.characters k.text) 0 (length (g.T.Chars.characters k.text)) (contents k.pieces.items))
+    (sym c.deref_mut-counted.ensures.value) c.self.invariant.segments)) in
     let start = ap (λ l. place_of (segments_from l first) c.len-end.result) c.deref-2.ensures.value in
     let low = segments_short c.self.inside.table.now x c.valid.ensures c.args.at 0 (place_of (segments_from pieces first) (length x))
     (segments_before pieces first) parts.0 (omega arith) reaching.short in
@@ -118,7 +128,7 @@ invariant_of-self-2 g c =
     let at = goal.at.invariant_of-self-2 g c in
     let parts' = parts g at.After-deref_mut in
     let met' = met g at.After-search_again-met in
-    let written = refilled counts c.self.inside.counts.items c.self.inside.counts.len c.self.inside.counts.ok.0
+    let written = refilled counts c.deref_mut-counted.result.now.counts.items c.deref_mut-counted.result.now.counts.len c.deref_mut-counted.result.now.counts.ok.0
     (met'.are_found.counted.all ∙ ap length c.deref_mut.ensures.value) in
     record {
       are_pieces = c.commit.ensures.pieces;
@@ -126,12 +136,14 @@ invariant_of-self-2 g c =
       counted =
           subst (AreCountsOf lists (contents c.commit.new.pieces.items)) (sym written)
           (subst (λ l. AreCountsOf lists l counts) (sym c.commit.ensures.contents) (all_counted parts' met' (counted g at.After-deref_mut)));
-      fit = c.search_again-met.ensures.fit ∙ c.self.invariant.fit;
+      fit = c.search_again-met.ensures.fit ∙ (kept g at.After-deref_mut).fit;
     }
 
 pub returns-clause-reads : goal.returns-clause-reads
 returns-clause-reads g c =
     let at = goal.at.returns-clause-reads g c in
-    let view = ap (λ tally. tally_edit_cost tally.table tally.text c.args.at c.args.remove (chars c.args.insert.now)) c.self.view_is in
+    let view = ap (λ k. tally_edit_cost c.self.inside.table.now (g.T.Chars.characters k.text) c.args.at c.args.remove (chars c.args.insert.now))
+    c.deref_mut-counted.ensures.value
+    ∙ ap (λ tally. tally_edit_cost tally.table tally.text c.args.at c.args.remove (chars c.args.insert.now)) c.self.view_is in
     let cost = cost_is (parts g at.After-deref_mut) (met g at.After-search_again-met) in
     record { more = omega (arith, c.search_again-met.ensures.read); cost = omega (arith, c.search_again-met.ensures.read, cost, view) }

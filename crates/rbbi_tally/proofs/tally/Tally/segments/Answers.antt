@@ -1,21 +1,24 @@
-use Rattle.std.proofs.Common.{sum, ap, ◌∙◌, arith}
+use Rattle.std.proofs.Common.{sum, sym, ap, subst, ◌∙◌, arith}
 use Rattle.rbbi_tally.specs.Counts.{segment_count}
 use Rattle.rbbi_tally.specs.Tallies.{boundaries_of}
 use Rattle.rbbi_tally.specs.inner.Pieces.{contents}
+use Rattle.rbbi_tally.specs.inner.Tallied.{IsTallied}
 use Rattle.rbbi_tally.proofs.Totals.{counted_all, sum_small}
 use Rattle.rbbi_tally.proofs.tally.Tally.segments.Goals as goal
 
 pub total-requires : goal.total-requires
 total-requires g c =
-    let x = g.T.Chars.characters c.self.inside.text in
-    let inv = c.self.invariant in
-    let few = sum_small c.self.inside.table.now x c.valid.ensures (contents c.self.inside.pieces.items) inv.segments c.self.inside.counts.items inv.counted in
+    let x = g.T.Chars.characters c.deref-counted.result.now.text in
+    let inv = subst (λ k. IsTallied c.self.inside.table.now (g.T.Chars.characters k.text) k.pieces.items k.counts.items k.marks) (sym c.deref-counted.ensures)
+    c.self.invariant in
+    let few = sum_small c.self.inside.table.now x c.valid.ensures (contents c.deref-counted.result.now.pieces.items) inv.segments c.deref-counted.result.now.counts.items inv.counted in
     omega (arith, few, c.len-short.ensures.most, ap sum c.deref.ensures.value)
 
 pub returns : goal.returns
 returns g c =
-    let x = g.T.Chars.characters c.self.inside.text in
-    let inv = c.self.invariant in
+    let x = g.T.Chars.characters c.deref-counted.result.now.text in
+    let inv = subst (λ k. IsTallied c.self.inside.table.now (g.T.Chars.characters k.text) k.pieces.items k.counts.items k.marks) (sym c.deref-counted.ensures)
+    c.self.invariant in
     c.total.ensures ∙ ap sum c.deref.ensures.value
-    ∙ counted_all c.self.inside.table.now x c.valid.ensures (contents c.self.inside.pieces.items) inv.segments c.self.inside.counts.items inv.counted
-    ∙ ap (λ tally. segment_count (boundaries_of tally)) c.self.view_is
+    ∙ counted_all c.self.inside.table.now x c.valid.ensures (contents c.deref-counted.result.now.pieces.items) inv.segments c.deref-counted.result.now.counts.items inv.counted
+    ∙ ap (λ tally. segment_count (boundaries_of tally)) (ap (λ k. record { table = c.self.inside.table.now; text = g.T.Chars.characters k.text }) c.deref-counted.ensures ∙ c.self.view_is)
