@@ -31,7 +31,7 @@ edited-keeps old at removed inserted (Err TooLong) new before after is = ap (λ 
 edited-keeps old at removed inserted (Err Memory) new before after is = ap (λ s. unit_view.setting s) is.0
 
 -- a session that went on and was paused again, by the desk's table in its unit
-module _ (unit : TextUnit) {table : Table} {self was new : UnitSession} (paused : Option Paused) (left : Paused)
+module _ (unit : TextUnit) {table : Table} {was new : UnitSession} (paused : Option Paused) (left : Paused)
     (goes : was ≡ record { unit = unit; asked = resumed_from table paused }) (setting : unit_view.setting new ≡ unit_view.setting was)
     (kept : IsPaused new.asked left) where
   of_unit : new.unit ≡ unit
@@ -41,9 +41,9 @@ module _ (unit : TextUnit) {table : Table} {self was new : UnitSession} (paused 
   of_table = ap (λ (s : UnitSetting). s.table) setting ∙ ap (λ (s : UnitSession). s.asked.table) goes
 
   -- what holds from the session that goes on to the one that is paused then holds from the desk to the one after it
-  pub desk-to-desk : (P : UnitSession → UnitSession → Type 0) → record { unit = unit; asked = resumed_from table paused } ≡ self → P was new
+  pub desk-to-desk : (P : UnitSession → UnitSession → Type 0) {self : UnitSession} → record { unit = unit; asked = resumed_from table paused } ≡ self → P was new
       → P self (record { unit = unit; asked = resumed table left })
-  desk-to-desk P view holds =
+  desk-to-desk P {self = self} view holds =
       subst (P self) (sym (resumed-session unit table left new of_unit of_table kept)) (subst (λ s. P s new) (goes ∙ view) holds)
 
   -- it keeps to the desk's table, and its cursor lies where the session's did
