@@ -1,5 +1,6 @@
 -- Many suppressed boundaries in a row: what is known of a stretch on the way through it, and on the way back past stretches.
-use Rattle.std.proofs.Common.{◌≡◌, ℕ, ◌+◌, ◌-◌, ◌<◌, ◌≤◌, ◌⊎◌, inl, inr, ⊎_elim, Bool, true, false, ◌&&◌, ltb, leb, List, [], ◌∷◌, ◌++◌, Option, Some, None, length}
+use Rattle.std.proofs.Common.{◌≡◌, ℕ, ◌+◌, ◌-◌, ◌<◌, ◌≤◌, ◌⊎◌, inl, inr, ⊎_elim, Bool, true, false, ◌&&◌, ltb, leb, List, [], ◌∷◌, ◌++◌, Option, Some}
+use Rattle.std.proofs.Common.{None, length}
 use Rattle.std.proofs.Common.{filter, take, drop, sym, refl, ap, ◌∙◌, subst, arith}
 use Rattle.std.specs.Prelude.{sum_by}
 use Rattle.std.specs.List.{AllByRecursion}
@@ -66,7 +67,7 @@ sum_less f more less implies [] = omega arith
 sum_less f more less implies (b ∷ bs) =
     let rest = sum_less f more less implies bs in
     let sum : (test : Boundary → Bool) → (test b ≡ true → sum_by f (filter test (b ∷ bs)) ≡ f b + sum_by f (filter test bs))
-        × (test b ≡ false → sum_by f (filter test (b ∷ bs)) ≡ sum_by f (filter test bs)) =
+    × (test b ≡ false → sum_by f (filter test (b ∷ bs)) ≡ sum_by f (filter test bs)) =
     λ test. (
       λ holds. ap (sum_by f) (cond-true (test b) (b ∷ filter test bs) (filter test bs) holds) ∙ sum_by-cons f b (filter test bs),
       λ fails. ap (sum_by f) (cond-false (test b) (b ∷ filter test bs) (filter test bs) fails),
@@ -86,7 +87,8 @@ module _ (table : Table) (x : List ℕ) (at number next : ℕ) (here : IsBoundar
   rising = subst (λ bs. IsRising (places bs)) here.whole (table_covers table x).rise
 
   behind : AllByRecursion (λ b. next ≤ b.at) here.after
-  behind = from here.before here.after (rises_after (boundary_at table at number) here.after (rising_right here.before (boundary_at table at number ∷ here.after)
+  behind = from here.before here.after (rises_after (boundary_at table at number) here.after (rising_right here.before
+      (boundary_at table at number ∷ here.after)
       rising)) (subst (λ bs. AllByRecursion (λ b. (b.at ≤ at) ⊎ (next ≤ b.at)) bs) here.whole (apart (table_boundaries table x) at next
       (table_covers table x).rise first))
     where
@@ -120,8 +122,8 @@ module _ (table : Table) (x : List ℕ) (at number next : ℕ) (here : IsBoundar
       let parts : (test : Boundary → Bool) → sum_by f (filter test (table_boundaries table x))
       ≡ sum_by f (filter test here.before) + sum_by f (filter test (b ∷ here.after)) =
       λ test. ap (λ bs. sum_by f (filter test bs)) here.whole
-          ∙ ap (sum_by f) (filter-append test here.before (b ∷ here.after))
-          ∙ sum_by-append f (filter test here.before) (filter test (b ∷ here.after)) in
+      ∙ ap (sum_by f) (filter-append test here.before (b ∷ here.after))
+      ∙ sum_by-append f (filter test here.before) (filter test (b ∷ here.after)) in
       let has : sum_by f (filter these (b ∷ here.after)) ≡ f b + sum_by f (filter these here.after) =
       ap (sum_by f) (cond-true (these b) (b ∷ filter these here.after) (filter these here.after)
       (and_from (leb at at) (ltb at o) (le-leb at at (omega arith)) (lt-ltb at o short)))
@@ -233,7 +235,6 @@ went_on old now table_is text_is here at_is is next first new moved before after
           (sym at_is) read.cost;
     }
 
-
 -- Boundaries have been passed over from o to a place, a stretch begins before that, and its searches begin there.
 module _ (list : List (List ℕ)) (old : Session) (o : ℕ) (now : Session) (from start steps : ℕ)
     (passing : IsPassingBack list (through list old) o now from start steps) (first : ℕ) (new : Session) (middle : ℕ)
@@ -267,11 +268,13 @@ module _ (list : List (List ℕ)) (old : Session) (o : ℕ) (now : Session) (fro
         cost = omega (arith, passing.paid, paid, stops_back_cost old.table list old.state.text from place start_is tells);
       }
 
-  module _ (some : 0 < first) (gone : Session) (table_is : gone.table ≡ new.table) (text_is : gone.state.text ≡ new.state.text) (after : ℕ) (rise : middle ≤ after)
+  module _ (some : 0 < first) (gone : Session) (table_is : gone.table ≡ new.table) (text_is : gone.state.text ≡ new.state.text) (after : ℕ)
+      (rise : middle ≤ after)
       (read : after ≤ middle + window_size + (from - 1 - new.state.cursor) + stretch_cost new.table new.state.text new.state.cursor from) where
     paid_for : after ≤ steps + back_cost old.table old.state.text from + window_size
     paid_for =
-        let left = carry (λ t x n. middle + stretch_cost t x n from + (from - 1 - n) ≤ steps + back_cost t x from) now.table old.table now.state.text old.state.text
+        let left = carry (λ t x n. middle + stretch_cost t x n from + (from - 1 - n) ≤ steps + back_cost t x from) now.table old.table now.state.text
+        old.state.text
         first first passing.same.table_is passing.same.text_is refl (begins.left some) in
         let reads = carry (λ t x n. after ≤ middle + window_size + (from - 1 - n) + stretch_cost t x n from) new.table old.table new.state.text old.state.text
         new.state.cursor first begun_table begun_text begun_at read in
@@ -281,7 +284,8 @@ module _ (list : List (List ℕ)) (old : Session) (o : ℕ) (now : Session) (fro
     pub goes_to_last : (last : Here) → IsLastReported list new.table new.state.text new.state.cursor from (Some last) → (stood : Session) →
         plain.MovesTo gone last.at stood → GoesBackTo list old o last.at stood start after
     goes_to_last last reported stood moved =
-        let is = carry (λ t x n. IsLastReported list t x n from (Some last)) new.table old.table new.state.text old.state.text new.state.cursor first begun_table
+        let is = carry (λ t x n. IsLastReported list t x n from (Some last)) new.table old.table new.state.text old.state.text new.state.cursor first
+        begun_table
         begun_text begun_at reported in
         let paid = paid_for in
         record {

@@ -29,12 +29,7 @@ impl Trail {
     }
 
     /// Goes on to a place of the text. It reads only characters that come after the place before.
-    pub(crate) fn go_on<T: Chars, L: Ledger>(
-        &mut self,
-        text: &T,
-        at: u32,
-        steps: &mut Steps<L>,
-    )
+    pub(crate) fn go_on<T: Chars, L: Ledger>(&mut self, text: &T, at: u32, steps: &mut Steps<L>)
         requires order { self.old.at ≤ at }
         requires within { at ≤ length (T.characters text.now) }
         requires is { IsTrail (T.characters text.now) self.old }

@@ -146,17 +146,33 @@ module _ (f : Boundary → ℕ) where
       let more = parted a i order bs in
       ⊎_elim
       (λ past.
-      let kept = ap (λ cs. sum_by f (filter (λ (c : Boundary). leb c.at i) cs)) (cond-true (leb (a + 1) b.at) (b ∷ from_place (a + 1) bs) (from_place (a + 1) bs)
+      let kept = ap (λ cs. sum_by f (filter (λ (c : Boundary). leb c.at i) cs)) (cond-true (leb (a + 1) b.at) (b ∷ from_place (a + 1) bs)
+      (from_place (a + 1) bs)
       (le-leb (a + 1) b.at (omega (arith, past)))) in
       let none = sum_left (λ c. leb c.at a) b bs (lt-leb b.at a past) in
       ⊎_elim
-      (λ far. omega (arith, more, kept, none, sum_left (λ c. leb c.at i) b bs (lt-leb b.at i far), sum_left (λ c. leb c.at i) b (from_place (a + 1) bs)
-      (lt-leb b.at i far)))
-      (λ near. omega (arith, more, kept, none, sum_kept (λ c. leb c.at i) b bs (le-leb b.at i near), sum_kept (λ c. leb c.at i) b (from_place (a + 1) bs)
-      (le-leb b.at i near)))
+      (λ far. omega (
+        arith,
+        more,
+        kept,
+        none,
+        sum_left (λ c. leb c.at i) b bs (lt-leb b.at i far),
+        sum_left (λ c. leb c.at i) b (from_place (a + 1) bs)
+            (lt-leb b.at i far),
+      ))
+      (λ near. omega (
+        arith,
+        more,
+        kept,
+        none,
+        sum_kept (λ c. leb c.at i) b bs (le-leb b.at i near),
+        sum_kept (λ c. leb c.at i) b (from_place (a + 1) bs)
+            (le-leb b.at i near),
+      ))
       (cases_lt i b.at))
       (λ up.
-      let left = ap (λ cs. sum_by f (filter (λ (c : Boundary). leb c.at i) cs)) (cond-false (leb (a + 1) b.at) (b ∷ from_place (a + 1) bs) (from_place (a + 1) bs)
+      let left = ap (λ cs. sum_by f (filter (λ (c : Boundary). leb c.at i) cs)) (cond-false (leb (a + 1) b.at) (b ∷ from_place (a + 1) bs)
+      (from_place (a + 1) bs)
       (lt-leb (a + 1) b.at (omega (arith, up)))) in
       omega (arith, more, left, sum_kept (λ c. leb c.at a) b bs (le-leb b.at a up), sum_kept (λ c. leb c.at i) b bs (le-leb b.at i (omega (arith, up, order)))))
       (cases_lt a b.at)
@@ -172,14 +188,16 @@ from_first a r i some past (b ∷ bs) each =
     ap (filter (λ (c : Boundary). leb c.at (i - 1))) (cond-false (leb (a + 1) b.at) (b ∷ from_place (a + 1) bs) (from_place (a + 1) bs)
     (lt-leb (a + 1) b.at (omega (arith, up))))
     ∙ more
-    ∙ sym (ap (λ t. cond (t && ltb b.at i) (b ∷ filter (λ (c : Boundary). leb r c.at && ltb c.at i) bs) (filter (λ (c : Boundary). leb r c.at && ltb c.at i) bs))
+    ∙ sym (ap (λ t. cond (t && ltb b.at i) (b ∷ filter (λ (c : Boundary). leb r c.at && ltb c.at i) bs)
+    (filter (λ (c : Boundary). leb r c.at && ltb c.at i) bs))
     (lt-leb r b.at (omega (arith, up, past)))))
     (λ from.
     ap (filter (λ (c : Boundary). leb c.at (i - 1))) (cond-true (leb (a + 1) b.at) (b ∷ from_place (a + 1) bs) (from_place (a + 1) bs)
     (le-leb (a + 1) b.at (omega (arith, from, past))))
     ∙ ap (λ cs. cond (leb b.at (i - 1)) (b ∷ cs) cs) more
     ∙ ap (λ t. cond t (b ∷ filter (λ (c : Boundary). leb r c.at && ltb c.at i) bs) (filter (λ (c : Boundary). leb r c.at && ltb c.at i) bs)) (same b)
-    ∙ sym (ap (λ t. cond (t && ltb b.at i) (b ∷ filter (λ (c : Boundary). leb r c.at && ltb c.at i) bs) (filter (λ (c : Boundary). leb r c.at && ltb c.at i) bs))
+    ∙ sym (ap (λ t. cond (t && ltb b.at i) (b ∷ filter (λ (c : Boundary). leb r c.at && ltb c.at i) bs)
+    (filter (λ (c : Boundary). leb r c.at && ltb c.at i) bs))
     (le-leb r b.at from)))
     each.0
   where
@@ -236,7 +254,8 @@ module _ (table : Table) (valid : IsValidTable table) (x : List ℕ) (i q a r : 
       ⊎_elim
       (λ zero. ap (anchor_below table x) zero.1 ∙ sym zero.0)
       (λ other. ap (λ p. unwrap_or p 0)
-      (greatest_is (is_anchor table x) a q (omega (arith, other.1)) ((anchors_stored table valid x q).1 anchor) (λ p past below. absurd (omega (arith, other.1)))))
+      (greatest_is (is_anchor table x) a q (omega (arith, other.1)) ((anchors_stored table valid x q).1 anchor)
+      (λ p past below. absurd (omega (arith, other.1)))))
       cases_low
 
   -- what it costs to go there

@@ -54,7 +54,8 @@ found_here g c =
     (sym c.boundary-here.ensures.at) c.boundaries.invariant.found
 
 -- what was read up to the next boundary
-read : (g : Over) (c : After-search_on g) → c.search_on.new.steps + stretch_cost c.args.session.now.table c.args.session.now.state.text c.search_on.result c.args.o
+read : (g : Over) (c : After-search_on g) → c.search_on.new.steps
+    + stretch_cost c.args.session.now.table c.args.session.now.state.text c.search_on.result c.args.o
     ≤ c.args.steps.now + 64 + (c.boundary-here.result.at - c.args.session.now.state.cursor)
     + stretch_cost c.args.session.now.table c.args.session.now.state.text c.args.session.now.state.cursor c.args.o
 read g c =
@@ -67,7 +68,8 @@ read g c =
       gone.read,
       c.boundary-here.ensures.at,
       ap (λ n. stretch_cost old.table old.state.text n c.args.o) c.boundary-here.ensures.at,
-      stretch_goes_on old.table old.state.text c.boundary-here.result.at c.boundary-here.result.status c.search_on.result gone.is gone.follows gone.past c.args.o
+      stretch_goes_on old.table old.state.text c.boundary-here.result.at c.boundary-here.result.status c.search_on.result gone.is gone.follows gone.past
+          c.args.o
           (omega (arith, c.boundary-here.ensures.at, c.boundaries.invariant.short)),
     )
 
@@ -90,7 +92,6 @@ returns-then-search_on-o-clause-cost g c =
       c.boundaries.invariant.short,
       c.boundaries.invariant.from,
     )
-
 
 pub boundaries-smaller : goal.boundaries-smaller
 boundaries-smaller g c =

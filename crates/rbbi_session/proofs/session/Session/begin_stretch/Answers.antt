@@ -17,9 +17,9 @@ low_is : (g : Over) (c : After-go_past-place g) → low c.tries.anchor ≡ c.if-
 low_is g c =
     elim c.if-anchor-eq0.branch [
       | then-anchor-eq0 w ↦
-        omega (arith, w.below_low-is, cond-true (eqb c.tries.anchor 0) 1 (c.tries.anchor + 2) (eq-eqb c.tries.anchor 0 w.if-anchor-eq0.true))
+          omega (arith, w.below_low-is, cond-true (eqb c.tries.anchor 0) 1 (c.tries.anchor + 2) (eq-eqb c.tries.anchor 0 w.if-anchor-eq0.true))
       | else-anchor-eq0 w ↦
-        omega (arith, w.below_low-is, cond-false (eqb c.tries.anchor 0) 1 (c.tries.anchor + 2) (ne_eqb c.tries.anchor 0 w.if-anchor-eq0.false))
+          omega (arith, w.below_low-is, cond-false (eqb c.tries.anchor 0) 1 (c.tries.anchor + 2) (ne_eqb c.tries.anchor 0 w.if-anchor-eq0.false))
     ]
 
 finds : (g : Over) (c : After-go_past-place g) → FindsFirst c.args.self.now c.tries.anchor c.if-anchor-eq0.below_low c.go_past-place.result
