@@ -104,7 +104,7 @@ def compiling(bench):
                       for words in (['check', one], ['compile', one, none], ['compile', one, written]))
     for what, seconds in zip(('into /dev/null', 'into a file'), others):
         yield Line(f'`compile` of the one rule `a;` {what}, over `check` of it, the least of 40 each',
-                   time_text(max(seconds - alone, 1e-9)))
+                   f'{1e6 * max(seconds - alone, 1e-9):.1f} µs')
     for name in ('grapheme', 'word', 'sentence', 'line'):
         yield loading(bench, name)
 
