@@ -8,7 +8,7 @@ use Rattle.rbbi_model.specs.Places.{largest}
 use Rattle.rbbi_model.specs.Tables.{Table, statuses_of}
 use Rattle.rbbi_model.specs.Units.{size_of, offset_of}
 use Rattle.rbbi_model.specs.Searches.{search_end, look_end, found, table_boundaries}
-use Rattle.rbbi_model.specs.ReadAlike.{ReadsAlike, FindsAlike}
+use Rattle.rbbi_model.specs.ReadAlike.{ReadsAlike}
 use Rattle.rbbi_model.specs.Answers.{first_after, statuses_at}
 use Rattle.rbbi_model.proofs.Found.{end_lies, look_lies}
 use Rattle.rbbi_model.proofs.Local.{piece_of_piece}

@@ -4,7 +4,6 @@ ghost use Rattle.rbbi_model.specs.declared.unit.Unit.{Unit as TextUnit};
 ghost use Rattle.rbbi_model.specs.Units.{offset_of};
 ghost use Rattle.rbbi_model.specs.Answers.{first_after};
 ghost use Rattle.rbbi_model.specs.Searches.{table_boundaries};
-ghost use Rattle.rbbi_text.specs.Excerpts.{IsExcerptOf};
 ghost use Rattle.rbbi_c.specs.inner.Bounds.{IsBound, Finds};
 ghost use Rattle.rbbi_c.specs.inner.Stretches.{AreGreatest, IsMeasured, IsStretch};
 

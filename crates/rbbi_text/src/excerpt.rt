@@ -1,5 +1,5 @@
 //! Characters of a text that stand next to each other in memory.
-ghost use Rattle.std.specs.Prelude.{◌≡◌, ◌+◌, ◌<◌, ◌≤◌, ℕ, List, length, slice_index, ⊤};
+ghost use Rattle.std.specs.Prelude.{◌≡◌, ℕ, List, slice_index, ⊤};
 ghost use Rattle.std.specs.Prelude.{MatchOption};
 ghost use Rattle.rbbi_text.specs.Excerpts.{IsExcerptOf};
 
