@@ -11,6 +11,7 @@ pub mod Cuts
 pub mod Appended
 pub mod Copied
 pub mod AddedParts
+pub mod Staying
 pub mod PartsTruth
 pub mod PartsList
 pub mod Scanning

@@ -8,7 +8,7 @@ ghost use Rattle.rbbi_cache.specs.inner.Parts.{IsMovable, right_part};
 ghost use Rattle.rbbi_cache.specs.Edits.{WereTrue, AreKeptAfterAny};
 
 use crate::anchors::first_pair;
-use crate::parts::{Edit, copy_left, copy_right};
+use crate::parts::{Edit, copy_left, copy_right, stays};
 use crate::run_list::RunList;
 use crate::runs::MOST_RUNS;
 use crate::{Cache, Run};
@@ -56,21 +56,43 @@ fn add_right(run: &Run, edit: Edit, pair: Option<u32>, next: &mut [Run], count: 
     if part.len() == 0 { count } else { count + 1 }
 }
 
+/// Adds the left and the right part of a run. One that stays as it is changes places with a slot.
+fn add_parts(run: &mut Run, edit: Edit, pair: Option<u32>, next: &mut [Run], count: usize) -> usize
+    requires movable { IsMovable run.old }
+    requires within { edit.at + edit.removed ≤ most_characters }
+    requires small { edit.at + edit.inserted ≤ most_characters }
+    requires pair { IfSome pair (λ q. q ≤ most_characters) }
+    requires room { length next.old ≡ 16 }
+    requires most { count ≤ 16 }
+    ensures most { result ≤ 16 }
+    ensures added { take result next.new ≡ take most_runs (take most_runs (take count next.old
+        ++ filter has_entries (left_part edit.at run.old ∷ []))
+        ++ filter has_entries (right_part edit.at edit.removed edit.inserted pair run.old ∷ [])) }
+{
+    if count < MOST_RUNS && stays(run, edit) {
+        let part = &mut next[count];
+        mem::swap(run, part);
+        return count + 1;
+    }
+    let count = add_left(run, edit, next, count);
+    add_right(run, edit, pair, next, count)
+}
+
 /// Fills the slots with the parts that an edit leaves of the kept runs, and gives their number.
 pub(crate) fn keep_edited<T: Chars, L: Ledger>(
     table: &Table,
     text: &T,
     edit: Edit,
-    former: &[Run],
+    former: &mut [Run],
     next: &mut [Run],
     steps: &mut Steps<L>,
 ) -> usize
     requires were_true { WereTrue table.now (T.characters text.now)
-        edit.at edit.removed edit.inserted former.now }
+        edit.at edit.removed edit.inserted former.old }
     requires room { length next.old ≡ 16 }
     ensures most { result ≤ 16 }
     ensures kept { AreKeptAfterAny table.now (T.characters text.now)
-        edit.at edit.removed edit.inserted former.now (take result next.new) }
+        edit.at edit.removed edit.inserted former.old (take result next.new) }
     ensures are_true { AreTrueRuns table.now (T.characters text.now) (take result next.new) }
     ensures more { steps.old ≤ steps.new }
     ensures read { steps.new ≤ steps.old + 1025 }
@@ -79,9 +101,10 @@ pub(crate) fn keep_edited<T: Chars, L: Ledger>(
     let _len = text.len();
     let pair = first_pair(table, text, edit.at + edit.inserted, steps);
     let mut count = 0;
-    for run in former {
-        count = add_left(run, edit, next, count);
-        count = add_right(run, edit, pair, next, count);
+    let mut k = 0;
+    while k < former.len() {
+        count = add_parts(&mut former[k], edit, pair, next, count);
+        k += 1;
     }
     count
 }
@@ -93,18 +116,21 @@ impl RunList {
         table: &Table,
         text: &T,
         edit: Edit,
-        former: &[Run],
+        former: &mut RunList,
         steps: &mut Steps<L>,
     )
         requires { WereTrue table.now (T.characters text.now)
-            edit.at edit.removed edit.inserted former.now }
+            edit.at edit.removed edit.inserted former.old }
         ensures kept { AreKeptAfterAny table.now (T.characters text.now)
-            edit.at edit.removed edit.inserted former.now self.new }
+            edit.at edit.removed edit.inserted former.old self.new }
         ensures are_true { AreTrueRuns table.now (T.characters text.now) self.new }
         ensures more { steps.old ≤ steps.new }
         ensures read { steps.new ≤ steps.old + 1025 }
     {
-        self.count = keep_edited(table, text, edit, former, self.slots.as_mut_slice(), steps);
+        let count = former.count;
+        let slots = former.slots.as_mut_slice();
+        let runs = &mut slots[..count];
+        self.count = keep_edited(table, text, edit, runs, self.slots.as_mut_slice(), steps);
     }
 }
 
@@ -139,8 +165,8 @@ impl Cache {
             removed,
             inserted,
         };
-        let former = self.runs.as_slice();
-        self.next.fill_edited(table, text, edit, former, steps);
+        self.next
+            .fill_edited(table, text, edit, &mut self.runs, steps);
         self.quiet_to = 0;
         mem::swap(&mut self.runs, &mut self.next);
     }

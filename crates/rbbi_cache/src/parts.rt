@@ -1,11 +1,12 @@
 //! The parts that an edit leaves of a kept run.
 ghost use Rattle.std.specs.Prelude.{◌≡◌, ◌+◌, ◌≤◌, ◌++◌, [], length, map, filter, take, drop};
-ghost use Rattle.std.specs.Prelude.{nat_le, nat_lt, IfSome};
+ghost use Rattle.std.specs.Prelude.{nat_le, nat_lt, IfSome, IsTrue};
 ghost use Rattle.std.specs.List.{AllByRecursion};
 ghost use Rattle.rbbi_model.specs.Words.{most_characters};
 ghost use Rattle.rbbi_model.specs.Runs.{ReachesRise};
 ghost use Rattle.rbbi_cache.specs.Edits.{left_part, moved_entry, moved_run, run_behind};
 ghost use Rattle.rbbi_cache.specs.inner.Parts.{CanMove, IsMovable, moves_whole, right_part};
+ghost use Rattle.rbbi_cache.specs.inner.Parts.{Stays};
 
 use crate::shown::count_up_to;
 use crate::{Entry, Run};
@@ -22,6 +23,7 @@ pub(crate) struct Edit {
 fn count_reaching(entries: &[Entry], place: u32) -> usize
     requires { ReachesRise entries.now }
     ensures within { result ≤ length entries.now }
+    ensures up_to { AllByRecursion (λ entry. entry.reach ≤ place) (take result entries.now) }
     ensures first { take result entries.now
         ≡ filter (λ entry. nat_le entry.reach place) entries.now }
     ensures others { drop result entries.now
@@ -66,6 +68,22 @@ fn append_moved(run: &mut Run, entries: &[Entry], edit: Edit, first: u32)
             run.push(moved);
         }
     }
+}
+
+/// Whether an edit leaves the whole run as it is: the searches for its entries looked at nothing
+/// from the edit on.
+pub(crate) fn stays(run: &Run, edit: Edit) -> bool
+    requires { IsMovable run.now }
+    ensures { IsTrue result → Stays edit.at edit.removed run.now }
+{
+    let entries = run.entries();
+    if entries.len() == 0 || run.anchor() >= edit.at {
+        return false;
+    }
+    if count_reaching(entries, edit.at) < entries.len() {
+        return false;
+    }
+    true
 }
 
 /// Copies the left part of a kept run.

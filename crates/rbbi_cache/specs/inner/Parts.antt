@@ -1,10 +1,10 @@
 -- The parts that an edit leaves of a run, as functions of the first safe pair after the edit.
-use Rattle.std.specs.Prelude.{◌≡◌, ℕ, ◌+◌, ◌≤◌, ◌⊎◌, Bool, false, not, ◌&&◌, ◌||◌, List, [], ◌∷◌, length, Option, Some, None, if◌then◌else◌, ◌==◌, nat_le}
+use Rattle.std.specs.Prelude.{◌≡◌, ℕ, ◌+◌, ◌≤◌, ◌⊎◌, Bool, true, false, not, ◌&&◌, ◌||◌, List, [], ◌∷◌, length, Option, Some, None, if◌then◌else◌, ◌==◌, nat_le}
 use Rattle.std.specs.List.{AllByRecursion}
 use Rattle.rbbi_model.specs.Words.{most_characters}
 use Rattle.rbbi_model.specs.Runs.{Entry, Run, ReachesRise}
 use Rattle.rbbi_cache.specs.inner.Lists.{IsOrdered}
-use Rattle.rbbi_cache.specs.Edits.{left_part, moved_run, run_behind}
+use Rattle.rbbi_cache.specs.Edits.{left_part, moved_run, run_behind, has_entries}
 
 -- the entry lies so far after the start that it can be moved
 abbrev pub CanMove : ℕ → Entry → Type 0
@@ -39,6 +39,12 @@ part_behind at removed inserted (Some q) run = run_behind at removed inserted q 
 abbrev pub right_part : ℕ → ℕ → ℕ → Option ℕ → Run → Run
 right_part at removed inserted pair run =
     if moves_whole at removed inserted pair run then moved_run at removed inserted run else part_behind at removed inserted pair run
+
+-- the edit leaves the run as it is: its left part is the whole run, and its right part has no entry
+pub record Stays (at removed : ℕ) (run : Run) : Type 0 where
+  pub some : has_entries run ≡ true
+  pub left : left_part at run ≡ run
+  pub right : (inserted : ℕ) (pair : Option ℕ) → has_entries (right_part at removed inserted pair run) ≡ false
 
 -- of each run its left and then its right part
 abbrev pub all_parts : ℕ → ℕ → ℕ → Option ℕ → List Run → List Run

@@ -23,3 +23,6 @@ pub returns-clause-others : goal.returns-clause-others
 returns-clause-others c =
     reaching_others c.args.entries.now c.args.place _ (up_to_all c.args.entries.now c.args.place c.loop-k.k (omega arith) c.loop-k.invariant)
     (none_past c.args.entries.now c.args.place)
+
+pub returns-clause-up_to : goal.returns-clause-up_to
+returns-clause-up_to c = up_to_all c.args.entries.now c.args.place c.loop-k.k (omega arith) c.loop-k.invariant

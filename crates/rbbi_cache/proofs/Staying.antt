@@ -1,0 +1,61 @@
+-- Runs that an edit leaves as they are.
+use Rattle.std.proofs.Common.{◌≡◌, ℕ, ◌+◌, ◌<◌, ◌≤◌, ◌||◌, ◌&&◌, false, not, cond, ltb, leb, eqb, List, [], ◌∷◌, ◌++◌, length, length-append, length-take, map, filter}
+use Rattle.std.proofs.Common.{take, drop, get_or, set, sym, refl, ap, ◌∙◌, arith}
+use Rattle.std.specs.Prelude.{Option, Some, None}
+use Rattle.std.specs.List.{AllByRecursion}
+use Rattle.std.proofs.lemmas.Bool.{cond-true, cond-false, lt-leb, le-ltb, ne_eqb}
+use Rattle.std.proofs.lemmas.List.{take_all, append-nil, get_or-drop}
+use Rattle.std.proofs.lemmas.Grind.{take-set_at}
+use Rattle.rbbi_model.specs.Runs.{Entry, Run}
+use Rattle.rbbi_cache.specs.Kept.{most_runs}
+use Rattle.rbbi_cache.specs.Edits.{left_part, moved_entry, moved_run, has_entries}
+use Rattle.rbbi_cache.specs.inner.Parts.{IsPlaced, IsMovable, moves_whole, is_found_at, part_behind, right_part, Stays}
+use Rattle.rbbi_cache.proofs.Lists.{filter_none}
+
+-- entries that reach no farther than a place lie no farther
+none_behind : (anchor at removed : ℕ) (entries : List Entry) → AllByRecursion (IsPlaced anchor) entries → AllByRecursion (λ e. e.reach ≤ at) entries →
+    AllByRecursion (λ e. ltb (at + removed) e.at ≡ false) entries
+none_behind anchor at removed [] lie up = tt
+none_behind anchor at removed (e ∷ entries) lie up =
+    (le-ltb (at + removed) e.at (let low = lie.0.1 in omega (arith, up.0)), none_behind anchor at removed entries lie.1 up.1)
+
+module _ (at removed : ℕ) (run : Run) (movable : IsMovable run) (some : 0 < length run.entries) (before : run.anchor < at)
+    (all : AllByRecursion (λ e. e.reach ≤ at) run.entries) (whole : run.entries ≡ filter (λ e. leb e.reach at) run.entries) where
+  no_right : (inserted : ℕ) (pair : Option ℕ) → has_entries (part_behind at removed inserted pair run) ≡ false
+  no_right inserted None = refl
+  no_right inserted (Some q) =
+      ap (λ l. not (eqb (length (filter (λ (e : Entry). leb (q + 2) e.at) (map (moved_entry removed inserted) l))) 0))
+      (filter_none (λ e. ltb (at + removed) e.at) run.entries (none_behind run.anchor at removed run.entries movable.lie all))
+
+  pub stays_so : Stays at removed run
+  stays_so = record {
+    some = ap not (ne_eqb (length run.entries) 0 (λ none. omega arith));
+    left = let of : List Entry → Run = λ l. record { anchor = run.anchor; entries = l; leads = run.leads } in sym (ap of whole);
+    right = λ inserted pair.
+        let whole_no : moves_whole at removed inserted pair run ≡ false =
+        ap (λ b. b && (not (eqb run.anchor 0) || is_found_at pair (at + inserted))) (lt-leb (at + removed) run.anchor (omega arith)) in
+        ap has_entries (cond-false (moves_whole at removed inserted pair run) (moved_run at removed inserted run) (part_behind at removed inserted pair run)
+        whole_no) ∙ no_right inserted pair;
+  }
+
+-- one that stays is put behind the others
+pub swapped : (next : List Run) (count : ℕ) (at removed inserted : ℕ) (pair : Option ℕ) (run : Run) → Stays at removed run → count < 16 → length next ≡ 16 →
+    take (count + 1) (set next count run) ≡ take most_runs (take most_runs (take count next ++ cond (has_entries (left_part at run)) (left_part at run ∷ []) [])
+    ++ cond (has_entries (right_part at removed inserted pair run)) (right_part at removed inserted pair run ∷ []) [])
+swapped next count at removed inserted pair run stays few room =
+    let all : List Run = take count next ++ run ∷ [] in
+    let short : length (take count next ++ run ∷ []) ≤ 16 = omega (arith, length-append (take count next) (run ∷ []), length-take count next) in
+    take-set_at next count (count + 1) run refl (omega arith)
+    ∙ sym (take_all most_runs all short)
+    ∙ ap (take most_runs) (sym (take_all most_runs all short) ∙ sym (append-nil (take most_runs all)))
+    ∙ sym (ap (λ l. take most_runs (take most_runs (take count next ++ l) ++
+    cond (has_entries (right_part at removed inserted pair run)) (right_part at removed inserted pair run ∷ []) []))
+    (ap (λ r. cond (has_entries r) (r ∷ []) []) stays.left ∙ cond-true (has_entries run) (run ∷ []) [] stays.some)
+    ∙ ap (λ l. take most_runs (take most_runs all ++ l))
+    (cond-false (has_entries (right_part at removed inserted pair run)) (right_part at removed inserted pair run ∷ []) [] (stays.right inserted pair)))
+
+-- lists that are the same from a number on have the same there
+pub same_after : (xs ys : List Run) (k : ℕ) (d : Run) → drop k xs ≡ drop k ys → get_or xs k d ≡ get_or ys k d
+same_after xs ys k d same =
+    ap (λ n. get_or xs n d) (let s : k ≡ k + 0 = omega arith in s) ∙ sym (get_or-drop k xs 0 d) ∙ ap (λ l. get_or l 0 d) same ∙ get_or-drop k ys 0 d
+    ∙ ap (λ n. get_or ys n d) (let s : k + 0 ≡ k = omega arith in s)
