@@ -1,7 +1,7 @@
 -- Many suppressed boundaries in a row: what is known of a stretch on the way through it, and on the way back past stretches.
 use Rattle.std.proofs.Common.{◌≡◌, ℕ, ◌+◌, ◌-◌, ◌<◌, ◌≤◌, ◌⊎◌, inl, inr, ⊎_elim, Bool, true, false, ◌&&◌, ltb, leb, List, [], ◌∷◌, ◌++◌, Option, Some}
 use Rattle.std.proofs.Common.{None, length}
-use Rattle.std.proofs.Common.{filter, take, drop, sym, refl, ap, ◌∙◌, subst, arith}
+use Rattle.std.proofs.Common.{filter, drop, sym, refl, ap, ◌∙◌, subst, arith}
 use Rattle.std.specs.Prelude.{sum_by}
 use Rattle.std.specs.List.{AllByRecursion}
 use Rattle.std.proofs.lemmas.Bool.{cases_Bool, cond-true, cond-false, lt-ltb, le-ltb, le-leb, lt-leb, leb-true, and_from, and_left, and_parts}
@@ -280,25 +280,6 @@ module _ (list : List (List ℕ)) (old : Session) (o : ℕ) (now : Session) (fro
         new.state.cursor first begun_table begun_text begun_at read in
         omega (arith, left, reads)
 
-    -- one that isn't suppressed is found
-    pub goes_to_last : (last : Here) → IsLastReported list new.table new.state.text new.state.cursor from (Some last) → (stood : Session) →
-        plain.MovesTo gone last.at stood → GoesBackTo list old o last.at stood start after
-    goes_to_last last reported stood moved =
-        let is = carry (λ t x n. IsLastReported list t x n from (Some last)) new.table old.table new.state.text old.state.text new.state.cursor first
-        begun_table
-        begun_text begun_at reported in
-        let paid = paid_for in
-        record {
-          last = passing.last ∙ is.2;
-          tells = is.1;
-          moved = record {
-            table_is = moved.table_is ∙ table_is ∙ begun_table;
-            state_is = moved.state_is ∙ ap (λ x. record { text = x; cursor = last.at }) (text_is ∙ begun_text);
-          };
-          more = omega (arith, passing.more, begins.more, rise);
-          cost = omega (arith, passing.paid, paid);
-        }
-
     -- all are suppressed, and it goes on from the first
     pub goes_on : IsLastReported list new.table new.state.text new.state.cursor from None → IsPassingBack list (through list old) o gone first start after
     goes_on reported =
@@ -313,18 +294,6 @@ module _ (list : List (List ℕ)) (old : Session) (o : ℕ) (now : Session) (fro
           more = omega (arith, passing.more, begins.more, rise);
           paid = omega (arith, passing.paid, paid, is.2);
         }
-
--- nothing has been passed over yet
-pub passes_none_yet : (list : List (List ℕ)) (old : Session) (o start : ℕ) → 0 < o → o ≤ length old.state.text →
-    IsPassingBack list (through list old) o old o start start
-passes_none_yet list old o start some within = record {
-  same = record { filter_is = refl; table_is = refl; text_is = refl };
-  some = some;
-  within = within;
-  last = refl;
-  more = omega arith;
-  paid = omega arith;
-}
 
 -- Boundaries have been passed over, and stretches of them after that.
 pub back_far : (list : List (List ℕ)) (old : FilterSession) (o : ℕ) (now : Session) (from start steps : ℕ) → IsPassingBack list old o now from start steps →

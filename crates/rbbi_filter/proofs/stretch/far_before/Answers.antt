@@ -1,5 +1,5 @@
-use Rattle.std.proofs.Common.{◌≡◌, ◌<◌, sym, arith}
-use Rattle.rbbi_filter.proofs.Stretches.{goes_to_start, goes_to_last, goes_on, passes_none_yet}
+use Rattle.std.proofs.Common.{sym, arith}
+use Rattle.rbbi_filter.proofs.Stretches.{goes_to_start, goes_on}
 use Rattle.rbbi_filter.proofs.stretch.far_before.Goals as goal
 
 pub returns-then-first-eq0 : goal.returns-then-first-eq0

@@ -1,4 +1,3 @@
-use Rattle.std.proofs.Common.{◌≡◌, ◌+◌, ◌<◌, ◌≤◌, length}
 use Rattle.rbbi_filter.proofs.Filtering.{through, IsPassingBack}
 use Rattle.rbbi_filter.proofs.stretch.far_before.Given as goal
 

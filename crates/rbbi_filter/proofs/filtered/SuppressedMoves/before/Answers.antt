@@ -1,4 +1,4 @@
-use Rattle.std.proofs.Common.{◌≡◌, ◌<◌, ◌≤◌, true, Some, refl, ap, ◌∙◌, subst, arith}
+use Rattle.std.proofs.Common.{◌≡◌, ◌<◌, true, Some, refl, ap, ◌∙◌, subst, arith}
 use Rattle.rbbi_model.specs.Answers.{Preceding}
 use Rattle.rbbi_session.specs.Sessions.{place_reply}
 use Rattle.rbbi_session.specs.Sessions as plain
