@@ -1,3 +1,5 @@
 -- What only this crate's own code and proofs cite. Nothing that is promised rests on it.
 pub mod Bounds
+pub mod FilterDesks
+pub mod FilterLending
 pub mod Removing

@@ -5,6 +5,7 @@ ghost use Rattle.rbbi_c.specs.Calls.{AnswersThrough, EditsThrough, IsNoText, cod
 
 use crate::asking::{Ask, Told};
 use crate::codes;
+use crate::filter_answering::{ask_filtered, edit_filtered};
 use crate::handle::Handle;
 use crate::lending::{Lent, give_back, lend};
 use rbbi_session::UnitEditErr;
@@ -15,7 +16,7 @@ use std::rt::Memory;
 use std::sync::ledger::{Blank, Ledger};
 
 /// Writes what is reported to where C wants it.
-fn tell(told: Told, number: &mut u32) -> u32
+pub(crate) fn tell(told: Told, number: &mut u32) -> u32
     ensures code { result ≡ code_of told }
     ensures number { number.new ≡ number_of number.old told }
 {
@@ -43,10 +44,10 @@ fn ask_counted<L: Ledger>(
         session.new.held }
 {
     let alloc = Global::new(memory);
-    let Some(Lent { desk, room }) = lend(alloc, session) else {
-        return codes::HANDLE;
-    };
     let mut steps = Steps::<L>::exported(memory, blank);
+    let Some(Lent { desk, room }) = lend(alloc, session) else {
+        return ask_filtered(alloc, session, asked, number, &mut steps);
+    };
     let (desk, told) = desk.ask(asked, &mut steps);
     give_back(alloc, session, desk, room);
     tell(told, number)
@@ -106,10 +107,10 @@ fn edit_counted<L: Ledger>(
         Err(code) => return code,
     };
     let alloc = Global::new(memory);
-    let Some(Lent { desk, room }) = lend(alloc, session) else {
-        return codes::HANDLE;
-    };
     let mut steps = Steps::<L>::exported(memory, blank);
+    let Some(Lent { desk, room }) = lend(alloc, session) else {
+        return edit_filtered(alloc, session, at, remove, text, &mut steps);
+    };
     let (desk, edited) = desk.replace(at, remove, text, &mut steps);
     give_back(alloc, session, desk, room);
     edit_code(edited)

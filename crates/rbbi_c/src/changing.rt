@@ -5,6 +5,7 @@ ghost use Rattle.rbbi_c.specs.inner.Removing.{IsRemoved, IsNotRemoved, IsEditOf}
 
 use crate::answering::{edit_code, text_of};
 use crate::codes;
+use crate::filter_lending::unserved;
 use crate::handle::Handle;
 use crate::lending::{Lent, give_back, lend};
 use crate::part::copy_of;
@@ -135,7 +136,7 @@ fn edit_telling_counted<L: Ledger>(
     };
     let alloc = Global::new(memory);
     let Some(Lent { desk, room }) = lend(alloc, session) else {
-        return codes::HANDLE;
+        return unserved(alloc, session);
     };
     let mut steps = Steps::<L>::exported(memory, blank);
     let (desk, edited) = desk.replace_telling(alloc, at, remove, text, change, &mut steps);

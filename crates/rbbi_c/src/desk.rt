@@ -188,7 +188,7 @@ impl Desk {
     /// Writes the statuses at the cursor, as many as there is room for. How many there are, and the
     /// session as it was.
     pub(crate) fn statuses(self, room: &mut [u32]) -> (Desk, usize)
-        ensures listed { AreListed self room.old room.new result.1 }
+        ensures listed { AreListed unit_view self room.old room.new result.1 }
         ensures same { result.0 ≡ self }
     {
         let Desk {

@@ -8,6 +8,7 @@ ghost use Rattle.rbbi_c.specs.Holding.{StaysThere};
 use crate::bounds::go_back;
 use crate::codes;
 use crate::desk::Desk;
+use crate::filter_lending::unserved;
 use crate::handle::Handle;
 use crate::held::Held;
 use crate::lending::{Lent, give_back, lend};
@@ -111,7 +112,7 @@ fn fork_counted<L: Ledger>(
         return codes::HANDLE;
     }
     let Some(Lent { desk, room }) = lend(alloc, session) else {
-        return codes::HANDLE;
+        return unserved(alloc, session);
     };
     let mut steps = Steps::<L>::exported(memory, blank);
     let (desk, fork) = desk.fork(alloc, &mut steps);

@@ -9,6 +9,8 @@ ghost use Rattle.rbbi_c.specs.Listing.{ListsRangeThrough, SegmentThrough, progre
 
 use crate::codes;
 use crate::copying::copy_front;
+use crate::filter_answering::part_filtered;
+use crate::filter_lending::unserved;
 use crate::handle::Handle;
 use crate::lending::{Lent, give_back, lend};
 use crate::listing::Listing;
@@ -45,7 +47,7 @@ fn tell_segment(found: Option<Segment>, segment: &mut Segment) -> u32
 }
 
 /// Writes as much of a part of the text as there is room for, and its length.
-fn tell_part(part: &[u8], room: &mut [u8], count: &mut usize) -> u32
+pub(crate) fn tell_part(part: &[u8], room: &mut [u8], count: &mut usize) -> u32
     ensures copied { IsCopied part.now room.old room.new }
     ensures count { count.new ≡ length part.now }
     ensures code { result ≡ room_code (length part.now) (length room.old) }
@@ -80,7 +82,7 @@ fn list_counted<L: Ledger>(
 {
     let alloc = Global::new(memory);
     let Some(Lent { desk, room }) = lend(alloc, session) else {
-        return codes::HANDLE;
+        return unserved(alloc, session);
     };
     let mut steps = Steps::<L>::exported(memory, blank);
     let (desk, listing) = desk.boundaries(from, to, places, statuses, &mut steps);
@@ -109,7 +111,7 @@ fn list_back_counted<L: Ledger>(
 {
     let alloc = Global::new(memory);
     let Some(Lent { desk, room }) = lend(alloc, session) else {
-        return codes::HANDLE;
+        return unserved(alloc, session);
     };
     let mut steps = Steps::<L>::exported(memory, blank);
     let (desk, listing) = desk.boundaries_before(from, to, places, statuses, &mut steps);
@@ -133,7 +135,7 @@ fn segment_counted<L: Ledger>(
 {
     let alloc = Global::new(memory);
     let Some(Lent { desk, room }) = lend(alloc, session) else {
-        return codes::HANDLE;
+        return unserved(alloc, session);
     };
     let mut steps = Steps::<L>::exported(memory, blank);
     let (desk, found) = desk.segment(at, &mut steps);
@@ -158,10 +160,10 @@ fn part_counted<L: Ledger>(
         count.old count.new session.new.held }
 {
     let alloc = Global::new(memory);
-    let Some(Lent { desk, room: held }) = lend(alloc, session) else {
-        return codes::HANDLE;
-    };
     let mut steps = Steps::<L>::exported(memory, blank);
+    let Some(Lent { desk, room: held }) = lend(alloc, session) else {
+        return part_filtered(alloc, session, from, to, room, count, &mut steps);
+    };
     let (desk, part) = desk.part(alloc, from, to, &mut steps);
     give_back(alloc, session, desk, held);
     match part {

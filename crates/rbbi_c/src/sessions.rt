@@ -1,17 +1,22 @@
 //! What C calls to open, edit and close a session. `include/rbbi.h` documents these calls.
-ghost use Rattle.std.specs.Prelude.{◌≡◌, None};
+ghost use Rattle.std.specs.Prelude.{◌≡◌, ◌<◌, None};
+ghost use Rattle.rbbi_c.specs.Copying.{room_code};
 ghost use Rattle.rbbi_c.specs.Calls.{EditsThrough};
 ghost use Rattle.rbbi_c.specs.Opening.{OpensThrough};
 ghost use Rattle.rbbi_c.specs.Reading.{MeasuresThrough, ListsThrough};
 
 use crate::answering::edit_through;
 use crate::codes;
+use crate::filter_answering::{length_filtered, list_filtered};
 use crate::handle::Handle;
 use crate::held::Held;
 use crate::lending::{Lent, give_back, lend};
 use crate::opening::{is_open, keep, session_of};
+use rbbi_text::Steps;
 use std::alloc::Global;
+use std::marker::Brand;
 use std::rt::Memory;
+use std::sync::ledger::{Blank, Ledger};
 
 /// Opens a session over a text in UTF-8, with places in the unit of a number.
 #[unsafe(no_mangle)]
@@ -65,7 +70,7 @@ pub extern "C" fn rbbi_c_length(memory: Memory, session: &mut Handle, length: &m
 {
     let alloc = Global::new(memory);
     let Some(Lent { desk, room }) = lend(alloc, session) else {
-        return codes::HANDLE;
+        return length_filtered(alloc, session, length);
     };
     let (desk, units) = desk.length();
     give_back(alloc, session, desk, room);
@@ -85,15 +90,42 @@ pub extern "C" fn rbbi_c_statuses(
     ensures { ListsThrough session.old.held result room.old room.new count.old count.new
         session.new.held }
 {
+    list_counted::<Brand>(memory, session, room, count, Blank::new(1))
+}
+
+/// Tells how many statuses there are, and whether there was room for them.
+pub(crate) fn tell_count(statuses: usize, room: usize, count: &mut usize) -> u32
+    ensures code { result ≡ room_code statuses room }
+    ensures count { count.new ≡ statuses }
+{
+    *count = statuses;
+    if statuses > room {
+        codes::ROOM
+    } else {
+        codes::OK
+    }
+}
+
+/// Writes the statuses of the boundary at the cursor, with a counter of its own.
+fn list_counted<L: Ledger>(
+    memory: Memory,
+    session: &mut Handle,
+    room: &mut [u32],
+    count: &mut usize,
+    blank: Blank,
+) -> u32
+    requires name { blank.name ≡ L.name }
+    requires parts { blank.parts ≡ L.parts }
+    requires some { 0 < blank.parts }
+    ensures { ListsThrough session.old.held result room.old room.new count.old count.new
+        session.new.held }
+{
     let alloc = Global::new(memory);
+    let mut steps = Steps::<L>::exported(memory, blank);
     let Some(Lent { desk, room: held }) = lend(alloc, session) else {
-        return codes::HANDLE;
+        return list_filtered(alloc, session, room, count, &mut steps);
     };
     let (desk, statuses) = desk.statuses(room);
     give_back(alloc, session, desk, held);
-    *count = statuses;
-    if statuses > room.len() {
-        return codes::ROOM;
-    }
-    codes::OK
+    tell_count(statuses, room.len(), count)
 }
