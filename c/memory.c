@@ -87,6 +87,13 @@ int main(void) {
         wrong |= length != 4 || memcmp(file, "aa11", 4) != 0;
         DONE(rbbi_session_replace_utf16(&session, 0, 1, wide, 2, NULL));
         wrong |= place_of(&session, 0) != 1 || place_of(&session, 4) != 1002;
+        DONE(rbbi_session_tailor(&session, "00E9;0061\n", 10, NULL));
+        wrong |= place_of(&session, 1) != 1002;
+        DONE(rbbi_session_open(&copy, &other, text, sizeof text, RBBI_UTF8));
+        DONE(rbbi_session_replace(&copy, 4, 3, " 1 ", 3));
+        DONE(rbbi_session_suppress(&copy, "1\n", 2, NULL));
+        wrong |= place_of(&copy, 4) != 5 || place_of(&copy, 5) != 3000;
+        rbbi_session_close(&copy);
         rbbi_files_close(&files);
         rbbi_table_close(&table);
         rbbi_table_close(&loaded);

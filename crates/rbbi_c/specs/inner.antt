@@ -2,4 +2,6 @@
 pub mod Bounds
 pub mod Desks
 pub mod Lending
+pub mod FilterDesks
+pub mod FilterLending
 pub mod Removing

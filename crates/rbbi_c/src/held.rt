@@ -1,5 +1,6 @@
 //! What a handle holds.
 use crate::desk::Desk;
+use crate::filter_desk::FilterDesk;
 use crate::shared::SharedTable;
 use rbbi_props::PropTable;
 
@@ -12,4 +13,6 @@ pub enum Held {
     Table(SharedTable),
     /// A session.
     Session(Desk),
+    /// A session through a filter.
+    Filtered(FilterDesk),
 }
