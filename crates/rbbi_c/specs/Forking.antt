@@ -15,5 +15,5 @@ pub record IsForked (old : UnitSession) (now : Option Held) : Type 0 where
 -- refused.
 abbrev pub ForksThrough : Option Held → Option Held → ℕ → Option Held → Type 0
 ForksThrough session old code now =
-    MatchOption (session_in session) ((code ≡ unserved_code session) × (now ≡ old))
+    MatchOption (session_in session) ((now ≡ old) × ((code ≡ unserved_code session) ⊎ ((code ≡ 3) × HoldsSomething old)))
     (λ first. ((code ≡ 0) × (old ≡ None) × IsForked first now) ⊎ ((now ≡ old) × (((code ≡ 3) × HoldsSomething old) ⊎ (code ≡ 9))))

@@ -88,8 +88,9 @@ impl PausedThrough {
             Filter::Suppressing(list) => match self {
                 PausedThrough::Suppressing(paused) => {
                     let keep = |w: &[char]| list.ends(w);
-                    let (paused, out) =
-                        perform_past(table, paused, list, keep, unit, job, room, steps);
+                    let (paused, out) = perform_past(
+                        table, paused, list, keep, unit, job, room, steps,
+                    );
                     (PausedThrough::Suppressing(paused), out)
                 }
                 PausedThrough::Turning(_) => unreachable!(),
@@ -98,8 +99,9 @@ impl PausedThrough {
                 PausedThrough::Suppressing(_) => unreachable!(),
                 PausedThrough::Turning(paused) => {
                     let map = |c: char| pairs.turn(c);
-                    let (paused, out) =
-                        perform_turned(table, paused, pairs, map, unit, job, room, steps);
+                    let (paused, out) = perform_turned(
+                        table, paused, pairs, map, unit, job, room, steps,
+                    );
                     (PausedThrough::Turning(paused), out)
                 }
             },

@@ -3,8 +3,8 @@ ghost use Rattle.std.specs.Prelude.{◌≡◌, MatchOption};
 ghost use Rattle.rbbi_session.specs.Walks.{Cover, ListsArePaid, Recall};
 ghost use Rattle.rbbi_filter.specs.UnitFilters.{offset_in};
 
-use crate::moves::Moves;
 use crate::Through;
+use crate::moves::Moves;
 use crate::unit_places::{first_place_from, last_place_up_to};
 use rbbi_session::{UnitEditErr, Walk};
 use rbbi_text::{Chars, EditErr, Steps, Unit, UnitText};
