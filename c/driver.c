@@ -1,7 +1,8 @@
 /*
- * Plays a script as `rbbi run` does, through the C library: driver RULES TEXT SCRIPT UNIT. Places
- * count UNIT, one of chars, utf8 and utf16. Of the edits only `replace` is known, without escapes.
- * With one more word it plays the script as `rbbi tally` does, without the length after `ok`.
+ * Plays a script as `rbbi run` does, through the C library: driver RULES TEXT SCRIPT UNIT
+ * [--suppress|--tailor FILE]. Places count UNIT, one of chars, utf8 and utf16. Of the edits only
+ * `replace` is known, without escapes. A session without a filter is also asked in other ways. With the
+ * word `tally` last it plays the script as `rbbi tally` does, without the length after `ok`.
  * After each line the calls that read many boundaries at once, or a segment, are compared with the
  * questions, and after each edit what it changed with the boundaries of both texts; where they differ
  * the status is 2.
@@ -158,8 +159,14 @@ static void compare_change(const listed *old, const listed *new, uint32_t at, ui
          "the end");
 }
 
+/* Whether the session has a filter. */
+static int filtered;
+
 static int edit(rbbi_session *session, uint32_t at, uint32_t remove, const char *insert) {
     rbbi_change change = {7, 7, 7};
+    if (filtered) {
+        return rbbi_session_replace(session, at, remove, insert, strlen(insert));
+    }
     rbbi_session before = RBBI_INIT;
     uint32_t cursor, forked;
     must(rbbi_session_fork(session, &before), "fork");
@@ -244,8 +251,34 @@ static void compare_back(rbbi_session *session, uint32_t from, uint32_t to) {
     same(answer == RBBI_OK && (asked == RBBI_DONE || place < to), "the end of boundaries_before");
 }
 
+/* Calls that serve no session with a filter say so, and leave the cursor. */
+static void compare_refused(rbbi_session *session) {
+    rbbi_session copy = RBBI_INIT;
+    rbbi_change change;
+    uint32_t cursor, now, number;
+    size_t count;
+    must(rbbi_session_current(session, &cursor), "current");
+    int refused[] = {
+        rbbi_session_fork(session, &copy),
+        rbbi_session_replace_changed(session, 0, 0, "a", 1, &change),
+        rbbi_session_boundaries(session, 0, 9, NULL, NULL, 0, &count, &number),
+        rbbi_session_boundaries_before(session, 9, 0, NULL, NULL, 0, &count, &number),
+        rbbi_session_segment(session, 0, &number, &number, &number),
+        rbbi_session_suppress(session, "a", 1, NULL),
+    };
+    for (size_t i = 0; i < sizeof refused / sizeof *refused; i++) {
+        same(refused[i] == RBBI_FILTERED, "a call that serves no filter");
+    }
+    must(rbbi_session_current(session, &now), "current");
+    same(now == cursor, "the cursor");
+}
+
 static void compare(rbbi_session *session, uint32_t from) {
     uint32_t cursor, now, begin, end, status, place = 0;
+    if (filtered) {
+        compare_refused(session);
+        return;
+    }
     must(rbbi_session_current(session, &cursor), "current");
     int answer = rbbi_session_segment(session, from, &begin, &end, &status);
     must(rbbi_session_current(session, &now), "current");
@@ -303,7 +336,7 @@ static void play_script(rbbi_session *session, char *script) {
 }
 
 int main(int count, char **words) {
-    if (count != 5 && count != 6) {
+    if (count < 5 || count > 7) {
         return 2;
     }
     int unit = strcmp(words[4], "chars") == 0 ? RBBI_CHARS
@@ -327,14 +360,23 @@ int main(int count, char **words) {
     char *text = bytes_of(words[2], &length);
     rbbi_session session = RBBI_INIT;
     rbbi_tally tally = RBBI_INIT;
-    if (count == 5) {
+    if (count != 6) {
         must(rbbi_session_open(&session, &loaded, text, length, unit), "open");
     } else {
         must(rbbi_tally_open(&tally, &loaded, text, length, unit), "open");
     }
     rbbi_table_close(&loaded);
+    filtered = count == 7;
+    if (filtered) {
+        size_t size;
+        char *filter = bytes_of(words[6], &size);
+        must(strcmp(words[5], "--suppress") == 0 ? rbbi_session_suppress(&session, filter, size, &fault)
+                                                 : rbbi_session_tailor(&session, filter, size, &fault),
+             "filter");
+        free(filter);
+    }
     char *script = bytes_of(words[3], &length);
-    if (count == 5) {
+    if (count != 6) {
         play_script(&session, script);
     } else {
         tally_script(&tally, script);

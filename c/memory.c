@@ -108,6 +108,13 @@ int main(void) {
         DONE(rbbi_tally_each(&tally, statuses, counts, 2, &length));
         wrong |= length != 2 || statuses[0] != 100 || counts[0] != 1 || counts[1] != 2;
         rbbi_tally_close(&tally);
+        DONE(rbbi_session_tailor(&session, "00E9;0061\n", 10, NULL));
+        wrong |= place_of(&session, 1) != 1002;
+        DONE(rbbi_session_open(&copy, &other, text, sizeof text, RBBI_UTF8));
+        DONE(rbbi_session_replace(&copy, 4, 3, " 1 ", 3));
+        DONE(rbbi_session_suppress(&copy, "1\n", 2, NULL));
+        wrong |= place_of(&copy, 4) != 5 || place_of(&copy, 5) != 3000;
+        rbbi_session_close(&copy);
         rbbi_files_close(&files);
         rbbi_table_close(&table);
         rbbi_table_close(&loaded);

@@ -28,6 +28,8 @@ int main(void) {
     IS(strncmp(rbbi_unicode_version(), "18.", 3), 0);
 
     /* NULL */
+    IS(rbbi_session_suppress(NULL, "a", 1, NULL), RBBI_NULL);
+    IS(rbbi_session_tailor(&session, NULL, 1, NULL), RBBI_NULL);
     IS(rbbi_files_open(NULL), RBBI_NULL);
     IS(rbbi_table_compile(NULL, NULL, rules, strlen(rules), 0, NULL), RBBI_NULL);
     IS(rbbi_table_compile(&table, NULL, NULL, 3, 0, NULL), RBBI_NULL);
@@ -180,6 +182,26 @@ int main(void) {
     IS(told == 3 && resume == 2, 1);
     rbbi_session_close(&third);
     IS(rbbi_session_next(&fourth, &told), RBBI_OK);
+
+    /* filters */
+    IS(rbbi_session_suppress((rbbi_session *)&table, "a", 1, NULL), RBBI_HANDLE);
+    IS(rbbi_session_suppress(&third, "a", 1, NULL), RBBI_HANDLE);
+    IS(rbbi_session_suppress(&fourth, "a\xff", 2, &fault), RBBI_FAULT);
+    IS(fault.byte == 1 && strcmp(fault.name, "NotUtf8") == 0, 1);
+    IS(rbbi_session_suppress(&fourth, "a\n b\n", 5, &fault), RBBI_FAULT);
+    IS(fault.line == 2 && strcmp(fault.name, "BadLine") == 0, 1);
+    IS(rbbi_session_tailor(&fourth, "79;0061", 7, NULL), RBBI_FAULT);
+    IS(rbbi_session_current(&fourth, &told), RBBI_OK);
+    IS(told == 1, 1);
+    IS(rbbi_session_suppress(&fourth, "a\n", 2, &fault), RBBI_OK);
+    IS(rbbi_session_current(&fourth, &told), RBBI_OK);
+    IS(told == 0, 1);
+    IS(rbbi_session_tailor(&fourth, "0079;0061", 9, NULL), RBBI_FILTERED);
+    IS(rbbi_session_fork(&fourth, &third), RBBI_FILTERED);
+    IS(rbbi_session_segment(&fourth, 0, &told, &resume, places), RBBI_FILTERED);
+    IS(rbbi_session_replace(&fourth, 2, 1, "", 0), RBBI_OUTSIDE);
+    IS(rbbi_session_text(&fourth, 1, 2, room, 4, &count), RBBI_OK);
+    IS(count == 1 && room[0] == 'y', 1);
     rbbi_session_close(&fourth);
 
     /* tallies */

@@ -36,6 +36,8 @@ uint32_t rbbi_c_open(rbbi_table *, const uint8_t *, size_t, uint32_t, rbbi_sessi
 uint32_t rbbi_c_open_utf16(rbbi_table *, const uint16_t *, size_t, uint32_t, rbbi_session *,
                            uint32_t *);
 uint32_t rbbi_c_fork(rbbi_session *, rbbi_session *);
+uint32_t rbbi_c_suppress(rbbi_session *, const uint8_t *, size_t, told *, uint8_t *, size_t);
+uint32_t rbbi_c_tailor(rbbi_session *, const uint8_t *, size_t, told *, uint8_t *, size_t);
 uint32_t rbbi_c_replace(rbbi_session *, uint32_t, uint32_t, const uint8_t *, size_t);
 uint32_t rbbi_c_replace_utf16(rbbi_session *, uint32_t, uint32_t, const uint16_t *, size_t,
                               uint32_t *);
@@ -92,9 +94,10 @@ const char *rbbi_message(int answer) {
         "the bytes are not UTF-8",
         "memory ran out",
         "the buffer is too small",
-        "there is a fault in the rules, the property file or the table file",
+        "there is a fault in the rules, the property file, the table file or the filter's file",
         "the library has no table of this name",
         "a surrogate of a text in UTF-16 is in no pair",
+        "the session has a filter, which this call doesn't serve",
     };
     if (answer < 0 || answer >= (int)(sizeof messages / sizeof *messages)) {
         return "this is no answer of rbbi";
@@ -274,6 +277,30 @@ void rbbi_session_close(rbbi_session *session) {
     if (session) {
         rbbi_c_close(session);
     }
+}
+
+int rbbi_session_suppress(rbbi_session *session, const void *list, size_t length,
+                          rbbi_fault *fault) {
+    if (!session || (!list && length)) {
+        return RBBI_NULL;
+    }
+    told at = {0, 0, 0, 0};
+    rbbi_fault other;
+    uint8_t *name = (uint8_t *)(fault ? fault->name : other.name);
+    return pass(rbbi_c_suppress(session, from(list), length, &at, name, sizeof other.name - 1), &at,
+                fault);
+}
+
+int rbbi_session_tailor(rbbi_session *session, const void *pairs, size_t length,
+                        rbbi_fault *fault) {
+    if (!session || (!pairs && length)) {
+        return RBBI_NULL;
+    }
+    told at = {0, 0, 0, 0};
+    rbbi_fault other;
+    uint8_t *name = (uint8_t *)(fault ? fault->name : other.name);
+    return pass(rbbi_c_tailor(session, from(pairs), length, &at, name, sizeof other.name - 1), &at,
+                fault);
 }
 
 int rbbi_session_replace(rbbi_session *session, uint32_t at, uint32_t remove, const char *insert,

@@ -35,7 +35,7 @@
  * leaves every handle and every number as it was, with three exceptions: RBBI_FAULT writes the
  * fault, RBBI_LONE the number of the surrogate, and RBBI_ROOM the length and as much as fits. No
  * call ends the process, writes or reads a file, or waits, but for the turns above. Opening,
- * forking, editing, compiling, loading, writing, rbbi_session_text and rbbi_tally_each allocate
+ * filters, forking, editing, compiling, loading, writing, rbbi_session_text and rbbi_tally_each allocate
  * memory. Other questions don't; that isn't proved, but seen by reading the code.
  */
 #ifndef RBBI_H
@@ -89,10 +89,12 @@ enum {
     RBBI_NOT_UTF8 = 8, /* the bytes of a text or a name are not UTF-8 */
     RBBI_MEMORY = 9,   /* memory ran out */
     RBBI_ROOM = 10,    /* the buffer is too small; a prefix and the length are written */
-    RBBI_FAULT = 11,   /* rules, a property file or a table file have a fault, which is written */
+    RBBI_FAULT = 11,   /* rules, a property file, a table file or a file of a filter have a fault,
+                          which is written */
     RBBI_NAME = 12,    /* the library has no table of this name */
-    RBBI_LONE = 13     /* a text in UTF-16 has a surrogate that is in no pair, whose number is
+    RBBI_LONE = 13,    /* a text in UTF-16 has a surrogate that is in no pair, whose number is
                           written */
+    RBBI_FILTERED = 14 /* the session has a filter, which this call doesn't serve */
 };
 
 /* The units of places, numbers and lengths. */
@@ -102,7 +104,7 @@ enum {
     RBBI_UTF16 = 2  /* 16-bit units of UTF-16 */
 };
 
-/* A fault of rules, a property file or a table file. docs/rules.md and docs/formats.md have all
+/* A fault of rules, a property file, a table file or a file of a filter. docs/rules.md and docs/formats.md have all
    names, and rbbi_fault_message gives a sentence for each. */
 typedef struct rbbi_fault {
     char name[40];   /* its name, such as "UnknownProperty", ended by a zero */
@@ -190,6 +192,23 @@ int rbbi_session_open_utf16(rbbi_session *session, rbbi_table *table, const uint
 int rbbi_session_fork(rbbi_session *session, rbbi_session *copy);
 
 void rbbi_session_close(rbbi_session *session);
+
+/* ---- filters: what stands between a text and its boundaries as they are reported. These calls turn
+   an open session into one through a filter, over the same text and table, in the same unit; it
+   copies no text. The cursor goes to 0. From then on all calls below serve the session but
+   rbbi_session_replace_changed, rbbi_session_boundaries, rbbi_session_boundaries_before and
+   rbbi_session_segment. Those, rbbi_session_fork and a second filter answer RBBI_FILTERED.
+   RBBI_FAULT: "NotUtf8" with the byte, or "BadLine" with the line. `fault` may be NULL. ---- */
+
+/* From now on a boundary before which an abbreviation stands isn't reported, so that a sentence goes
+   on after "Mr.". `list` is a file of abbreviations, one a line (docs/formats.md). */
+int rbbi_session_suppress(rbbi_session *session, const void *list, size_t length,
+                          rbbi_fault *fault);
+
+/* From now on the boundaries are those of the text with its characters turned by these pairs. The
+   text stays as it is. `pairs` is a file of pairs of characters, one a line (docs/formats.md). */
+int rbbi_session_tailor(rbbi_session *session, const void *pairs, size_t length,
+                        rbbi_fault *fault);
 
 /* Replaces `remove` units from `at` on by the `length` bytes of UTF-8 at `insert`, and sets the
    cursor to 0. The cost depends on what the edit touches, not on the length of the text. */

@@ -138,6 +138,25 @@ class Sessions(unittest.TestCase):
                 session.replace_changed(9, 1, '')
             self.assertEqual(caught.exception.answer, Answer.OUTSIDE)
 
+    def test_filters_leave_boundaries_out_or_turn_characters(self):
+        with Table.named('sentence') as table, table.session('I met Mr. Fox. He ran.') as session:
+            self.assertEqual(session.next(), 10)
+            session.suppress('# titles\nMr.\n')
+            self.assertEqual([segment.end for segment in session], [15, 22])
+            session.replace(15, 2, '\U0001f98a')
+            self.assertEqual(([segment.end for segment in session], len(session)), ([15, 21], 21))
+            for call in (session.fork, session.boundaries, lambda: session.segment(0)):
+                with self.assertRaises(Error) as refused:
+                    call()
+                self.assertEqual(refused.exception.answer, Answer.FILTERED)
+        with self.table.session('a\u00b7b', Unit.UTF8) as session:
+            with self.assertRaises(Fault) as refused:
+                session.tailor('00B7;61\n')
+            self.assertEqual((refused.exception.name, refused.exception.line), ('BadLine', 1))
+            self.assertEqual([segment.end for segment in session], [1, 3, 4])
+            session.tailor('00B7;0061\n')
+            self.assertEqual([segment.end for segment in session], [4])
+
     def test_a_fork_has_a_text_and_a_cursor_of_its_own(self):
         with self.table.session('ab 12', Unit.UTF16) as session:
             session.following(2)

@@ -1,11 +1,12 @@
 -- What a handle holds.
-use Rattle.std.specs.Prelude.{◌≡◌, List, Option, None, Some}
+use Rattle.std.specs.Prelude.{◌≡◌, ℕ, List, Option, None, Some}
 use Rattle.rbbi_model.specs.Tables.{Table as BreakTable}
 use Rattle.rbbi_props.specs.Rows.{File}
 use Rattle.rbbi_session.specs.UnitSessions.{UnitSession}
+use Rattle.rbbi_filter.specs.UnitFilters.{UnitFilterSession}
 use Rattle.rbbi_c.specs.Tallying.{UnitTally}
 use Rattle.rbbi_c.specs.declared.held.Held.{Held}
-use Rattle.rbbi_c.specs.declared.held.Held.TheVariants.{Properties, Table, Session, Tally}
+use Rattle.rbbi_c.specs.declared.held.Held.TheVariants.{Properties, Table, Session, Filtered, Tally}
 
 -- the session that it holds
 abbrev pub session_in : Option Held → Option UnitSession
@@ -13,7 +14,17 @@ session_in None = None
 session_in (Some (Properties files)) = None
 session_in (Some (Table table)) = None
 session_in (Some (Session session)) = Some session
+session_in (Some (Filtered session)) = None
 session_in (Some (Tally tally)) = None
+
+-- the session through a filter that it holds
+abbrev pub filtered_in : Option Held → Option UnitFilterSession
+filtered_in None = None
+filtered_in (Some (Properties files)) = None
+filtered_in (Some (Table table)) = None
+filtered_in (Some (Session session)) = None
+filtered_in (Some (Filtered session)) = Some session
+filtered_in (Some (Tally tally)) = None
 
 -- the table that it holds
 abbrev pub table_in : Option Held → Option BreakTable
@@ -21,6 +32,7 @@ table_in None = None
 table_in (Some (Properties files)) = None
 table_in (Some (Table table)) = Some table
 table_in (Some (Session session)) = None
+table_in (Some (Filtered session)) = None
 table_in (Some (Tally tally)) = None
 
 -- the property files that it holds
@@ -29,6 +41,7 @@ files_in None = None
 files_in (Some (Properties files)) = Some files
 files_in (Some (Table table)) = None
 files_in (Some (Session session)) = None
+files_in (Some (Filtered session)) = None
 files_in (Some (Tally tally)) = None
 
 -- the tally that it holds
@@ -37,7 +50,17 @@ tally_in None = None
 tally_in (Some (Properties files)) = None
 tally_in (Some (Table table)) = None
 tally_in (Some (Session session)) = None
+tally_in (Some (Filtered session)) = None
 tally_in (Some (Tally tally)) = Some tally
+
+-- the code for a call that asks for a session, where it holds none that the call serves: of another code where that one has a filter
+abbrev pub unserved_code : Option Held → ℕ
+unserved_code None = 3
+unserved_code (Some (Properties files)) = 3
+unserved_code (Some (Table table)) = 3
+unserved_code (Some (Session session)) = 3
+unserved_code (Some (Filtered session)) = 14
+unserved_code (Some (Tally tally)) = 3
 
 -- it holds something
 abbrev pub HoldsSomething : Option Held → Type 0

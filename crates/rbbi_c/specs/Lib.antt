@@ -1,7 +1,9 @@
 pub mod Owning
 pub mod Asking
 pub mod Holding
+pub mod Sorts
 pub mod Calls
+pub mod Filtering
 pub mod Copying
 pub mod Reading
 pub mod Opening

@@ -5,7 +5,7 @@ use Rattle.rbbi_model.specs.Answers.{first_after}
 use Rattle.rbbi_session.specs.UnitSessions.{UnitSession}
 use Rattle.rbbi_session.specs.Walks.{reported}
 use Rattle.rbbi_session.specs.UnitWalks.{unit_view}
-use Rattle.rbbi_c.specs.Calls.{IsWrongHandle}
+use Rattle.rbbi_c.specs.Calls.{IsUnserved}
 use Rattle.rbbi_c.specs.Holding.{session_in, StaysThere}
 use Rattle.rbbi_c.specs.Ranges.{Columns, ListsOut}
 use Rattle.rbbi_c.specs.Segments.{IsSegmentAt}
@@ -36,7 +36,7 @@ pub record IsListedThrough (boundaries : List Boundary) (old : UnitSession) (fro
 -- what listing the boundaries that are asked for answers
 abbrev pub ListsRangeThrough : (UnitSession → List Boundary) → Option Held → ℕ → Columns → Columns → ℕ → Progress → Progress → Option Held → Type 0
 ListsRangeThrough asked held from before after code earlier reached now =
-    MatchOption (session_in held) (IsWrongHandle held code now × (after ≡ before) × (reached ≡ earlier))
+    MatchOption (session_in held) (IsUnserved held code now × (after ≡ before) × (reached ≡ earlier))
     (λ old. IsListedThrough (asked old) old from before after code reached now)
 
 -- the segment is reported, if there is one, and the session stays there
@@ -52,4 +52,4 @@ pub record IsSegmentThrough (old : UnitSession) (at code : ℕ) (before after : 
 -- what asking for the segment that holds a place answers
 abbrev pub SegmentThrough : Option Held → ℕ → ℕ → Segment → Segment → Option Held → Type 0
 SegmentThrough held at code before after now =
-    MatchOption (session_in held) (IsWrongHandle held code now × (after ≡ before)) (λ old. IsSegmentThrough old at code before after now)
+    MatchOption (session_in held) (IsUnserved held code now × (after ≡ before)) (λ old. IsSegmentThrough old at code before after now)

@@ -1,12 +1,10 @@
 -- A part of a session's text, read back.
-use Rattle.std.specs.Prelude.{◌≡◌, ℕ, ◌<◌, ◌≤◌, ◌⊎◌, List, length, Option, None, Some, MatchOption, slice_range, encode_utf8_all}
+use Rattle.std.specs.Prelude.{◌≡◌, ℕ, ◌<◌, ◌≤◌, ◌⊎◌, List, length, Option, None, Some, slice_range, encode_utf8_all}
 use Rattle.rbbi_model.specs.declared.unit.Unit.{Unit as TextUnit}
 use Rattle.rbbi_model.specs.Units.{offset_of}
 use Rattle.rbbi_model.specs.UnitAnswers.{place_at}
-use Rattle.rbbi_session.specs.UnitSessions.{UnitSession}
-use Rattle.rbbi_c.specs.Calls.{IsWrongHandle}
 use Rattle.rbbi_c.specs.Copying.{IsCopied, room_code}
-use Rattle.rbbi_c.specs.Holding.{session_in}
+use Rattle.rbbi_c.specs.Sorts.{OfSession}
 use Rattle.rbbi_c.specs.declared.held.Held.{Held}
 
 -- the characters of the text between two numbers, in UTF-8
@@ -26,9 +24,9 @@ IsNoPart unit x from to code =
     ⊎ (code ≡ 9)
 
 -- as much of the part is written as there is room for, and its length
-pub record IsPartWritten (old : UnitSession) (from to : ℕ) (before after : List ℕ) (code count : ℕ) : Type 0 where
+pub record IsPartWritten (unit : TextUnit) (x : List ℕ) (from to : ℕ) (before after : List ℕ) (code count : ℕ) : Type 0 where
   pub bytes : List ℕ
-  pub part : IsPart old.unit old.asked.state.text from to bytes
+  pub part : IsPart unit x from to bytes
   pub copied : IsCopied bytes before after
   pub counted : count ≡ length bytes
   pub code_is : code ≡ room_code count (length before)
@@ -37,6 +35,6 @@ pub record IsPartWritten (old : UnitSession) (from to : ℕ) (before after : Lis
 abbrev pub ReadsPartThrough : Option Held → ℕ → ℕ → List ℕ → List ℕ → ℕ → ℕ → ℕ → Option Held → Type 0
 ReadsPartThrough held from to before after code count_before count now =
     (now ≡ held)
-    × MatchOption (session_in held) ((code ≡ 3) × (after ≡ before) × (count ≡ count_before))
-    (λ old. IsPartWritten old from to before after code count
-    ⊎ (IsNoPart old.unit old.asked.state.text from to code × (after ≡ before) × (count ≡ count_before)))
+    × OfSession held ((code ≡ 3) × (after ≡ before) × (count ≡ count_before))
+    (λ A Setting sort old. IsPartWritten (sort.unit old) (sort.view.state old).text from to before after code count
+    ⊎ (IsNoPart (sort.unit old) (sort.view.state old).text from to code × (after ≡ before) × (count ≡ count_before)))

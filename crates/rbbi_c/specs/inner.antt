@@ -2,6 +2,8 @@
 pub mod Bounds
 pub mod Desks
 pub mod Lending
+pub mod FilterDesks
+pub mod FilterLending
 pub mod Removing
 pub mod Stretches
 pub mod Tallied

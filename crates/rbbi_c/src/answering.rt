@@ -6,6 +6,7 @@ ghost use Rattle.rbbi_c.specs.Calls.{AnswersThrough, EditsThrough, IsNoText, cod
 use crate::asking::{Ask, Told};
 use crate::codes;
 use crate::handle::Handle;
+use crate::filter_lending::lend_filtered;
 use crate::lending::lend;
 use rbbi_session::UnitEditErr;
 use rbbi_text::{MOST_BYTES, Steps, utf8_text};
@@ -49,7 +50,10 @@ fn ask_counted<L: Ledger>(
     let mut steps = Steps::<L>::exported(memory, blank);
     let code = match lend(&mut held) {
         Some(desk) => tell(desk.ask(asked, &mut steps), number),
-        None => codes::HANDLE,
+        None => match lend_filtered(&mut held) {
+            Some(desk) => tell(desk.ask(asked, &mut steps), number),
+            None => codes::HANDLE,
+        },
     };
     session.put(alloc, held);
     code
@@ -115,7 +119,10 @@ fn edit_counted<L: Ledger>(
     let mut steps = Steps::<L>::exported(memory, blank);
     let code = match lend(&mut held) {
         Some(desk) => edit_code(desk.replace(at, remove, text, &mut steps)),
-        None => codes::HANDLE,
+        None => match lend_filtered(&mut held) {
+            Some(desk) => edit_code(desk.replace(at, remove, text, &mut steps)),
+            None => codes::HANDLE,
+        },
     };
     session.put(alloc, held);
     code

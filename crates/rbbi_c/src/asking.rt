@@ -31,7 +31,7 @@ pub(crate) enum Told {
 }
 
 /// What is reported of a place that was found, or not.
-fn found(place: Option<u32>) -> Told
+pub(crate) fn found(place: Option<u32>) -> Told
     ensures { result ≡ told_of (place_reply place) }
 {
     match place {

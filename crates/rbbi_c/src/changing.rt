@@ -6,6 +6,7 @@ ghost use Rattle.rbbi_c.specs.inner.Removing.{IsRemoved, IsNotRemoved, IsEditOf}
 use crate::answering::{edit_code, text_of};
 use crate::codes;
 use crate::handle::Handle;
+use crate::filter_lending::unserved_by;
 use crate::lending::lend;
 use crate::part::copy_of;
 use crate::span::span_of;
@@ -132,7 +133,7 @@ fn edit_telling_counted<L: Ledger>(
         Some(desk) => {
             edit_code(desk.replace_telling(alloc, at, remove, text, change, &mut steps))
         }
-        None => codes::HANDLE,
+        None => unserved_by(&held),
     };
     session.put(alloc, held);
     code

@@ -38,3 +38,6 @@ pub(crate) const NAME: u32 = 12;
 
 /// A surrogate of a text in UTF-16 is alone.
 pub(crate) const LONE: u32 = 13;
+
+/// The session has a filter, which the call doesn't serve.
+pub(crate) const FILTERED: u32 = 14;

@@ -182,7 +182,7 @@ impl Desk {
     /// Writes the statuses at the cursor, as many as there is room for. How many there are. The
     /// session stays as it is.
     pub(crate) fn statuses(&mut self, room: &mut [u32]) -> usize
-        ensures listed { AreListed self.old room.old room.new result }
+        ensures listed { AreListed unit_view self.old room.old room.new result }
         ensures same { self.new ≡ self.old }
     {
         let session = resume_in(&self.table, self.unit, self.offset, &mut self.paused);

@@ -12,6 +12,7 @@ use crate::codes;
 use crate::desk::{Desk, resume};
 use crate::handle::Handle;
 use crate::held::Held;
+use crate::filter_lending::unserved_by;
 use crate::lending::lend;
 use crate::opening::{is_open, keep};
 use crate::part::copy_of;
@@ -103,7 +104,7 @@ fn fork_counted<L: Ledger>(
             Ok(fork) => keep(alloc, copy, Held::Session(fork)),
             Err(_) => codes::MEMORY,
         },
-        None => codes::HANDLE,
+        None => unserved_by(&held),
     };
     session.put(alloc, held);
     code

@@ -1,5 +1,6 @@
 //! What a handle holds.
 use crate::desk::Desk;
+use crate::filter_desk::FilterDesk;
 use crate::shared::SharedTable;
 use crate::tally_desk::TallyDesk;
 use rbbi_props::PropTable;
@@ -13,6 +14,8 @@ pub enum Held {
     Table(SharedTable),
     /// A session.
     Session(Desk),
+    /// A session through a filter.
+    Filtered(FilterDesk),
     /// A tally.
     Tally(TallyDesk),
 }

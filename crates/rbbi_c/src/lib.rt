@@ -10,6 +10,10 @@ mod compiling;
 mod copying;
 mod desk;
 mod faults;
+mod filter_desk;
+mod filter_jobs;
+mod filter_lending;
+mod filters;
 mod forking;
 mod greatest;
 mod handle;
@@ -39,6 +43,7 @@ mod wide;
 
 pub use changing::{Changed, rbbi_c_replace_changed};
 pub use faults::Fault;
+pub use filters::{rbbi_c_suppress, rbbi_c_tailor};
 pub use forking::rbbi_c_fork;
 pub use handle::Handle;
 pub use named::rbbi_c_table_named;

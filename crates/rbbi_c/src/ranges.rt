@@ -10,6 +10,7 @@ ghost use Rattle.rbbi_c.specs.Listing.{ListsRangeThrough, SegmentThrough, progre
 use crate::codes;
 use crate::copying::copy_front;
 use crate::handle::Handle;
+use crate::filter_lending::{lend_filtered, unserved_by};
 use crate::lending::lend;
 use crate::listing::Listing;
 use crate::segment::Segment;
@@ -88,7 +89,7 @@ fn list_counted<L: Ledger>(
             let listing = desk.boundaries(from, to, places, statuses, &mut steps);
             tell_listing(listing, count, resume)
         }
-        None => codes::HANDLE,
+        None => unserved_by(&held),
     };
     session.put(alloc, held);
     code
@@ -123,7 +124,7 @@ fn list_back_counted<L: Ledger>(
             let listing = desk.boundaries_before(from, to, places, statuses, &mut steps);
             tell_listing(listing, count, resume)
         }
-        None => codes::HANDLE,
+        None => unserved_by(&held),
     };
     session.put(alloc, held);
     code
@@ -150,7 +151,7 @@ fn segment_counted<L: Ledger>(
     let mut steps = Steps::<L>::exported(memory, blank);
     let code = match lend(&mut held) {
         Some(desk) => tell_segment(desk.segment(at, &mut steps), segment),
-        None => codes::HANDLE,
+        None => unserved_by(&held),
     };
     session.put(alloc, held);
     code
@@ -179,7 +180,10 @@ fn part_counted<L: Ledger>(
     let mut steps = Steps::<L>::exported(memory, blank);
     let part = match lend(&mut held) {
         Some(desk) => desk.part(alloc, from, to, &mut steps),
-        None => Err(codes::HANDLE),
+        None => match lend_filtered(&mut held) {
+            Some(desk) => desk.part(alloc, from, to, &mut steps),
+            None => Err(codes::HANDLE),
+        },
     };
     session.put(alloc, held);
     match part {

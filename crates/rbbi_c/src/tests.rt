@@ -1,6 +1,7 @@
 //! The calls as C makes them. `bin/check-c` makes them from C.
 use crate::codes;
 use crate::faults::Fault;
+use crate::filters::{rbbi_c_suppress, rbbi_c_tailor};
 use crate::forking::rbbi_c_fork;
 use crate::handle::Handle;
 use crate::named::rbbi_c_table_named;
@@ -265,5 +266,29 @@ fn a_closed_handle_is_refused(rt: HostRuntime) {
     let mut number = 99;
     let code = rbbi_c_next(memory, &mut session, &mut number);
     assert!(rt; code == codes::HANDLE && number == 99);
+    done(&rt, session);
+}
+
+#[test]
+fn a_session_goes_through_a_filter(rt: HostRuntime) {
+    let memory = rt.memory();
+    let mut fault = NO_FAULT;
+    let mut name = [0; 4];
+    let (mut table, _code) = compiled(&rt, b".;", &mut fault, &mut name);
+    let mut session = Handle::closed();
+    let code = rbbi_c_open(memory, &mut table, b"a b c", 1, &mut session);
+    assert!(rt; code == codes::OK);
+    done(&rt, table);
+    let code = rbbi_c_tailor(memory, &mut session, b"61;62", &mut fault, &mut name);
+    assert!(rt; code == codes::FAULT && fault.row == 1 && name.as_slice() == b"BadL".as_slice());
+    let code = rbbi_c_suppress(memory, &mut session, b"b\n", &mut fault, &mut name);
+    assert!(rt; code == codes::OK);
+    let mut place = 0;
+    let code = rbbi_c_following(memory, &mut session, 2, &mut place);
+    assert!(rt; code == codes::OK && place == 5);
+    let code = rbbi_c_tailor(memory, &mut session, b"0061;0062", &mut fault, &mut name);
+    assert!(rt; code == codes::FILTERED);
+    let code = rbbi_c_length(memory, &mut session, &mut place);
+    assert!(rt; code == codes::OK && place == 5);
     done(&rt, session);
 }

@@ -1,5 +1,8 @@
 //! A session that leaves out boundaries before which an abbreviation stands.
+ghost use Rattle.std.specs.Prelude.{◌≡◌, false};
 ghost use Rattle.rbbi_filter.specs.Closures.{AnswersEnds};
+ghost use Rattle.rbbi_filter.specs.Abbreviations.{is_suppressed};
+ghost use Rattle.rbbi_filter.specs.FilterPausing.{past, IsAskedPast};
 ghost use Rattle.rbbi_filter.specs.declared.filter.Filter.TheVariants.{Suppressing};
 ghost use Rattle.rbbi_filter.specs.FilterSessions.{FilterSession, HasTrueRuns, IsOpened};
 
@@ -9,7 +12,7 @@ use crate::through::Through;
 use crate::window::is_suppressed;
 use crate::{Abbreviations, Predicate};
 use rbbi_session::Session;
-use rbbi_text::{EditErr, EditText, Steps};
+use rbbi_text::{EditErr, Steps, UnitText};
 use std::marker::Model;
 use std::sync::ledger::Ledger;
 
@@ -24,7 +27,7 @@ pub type Filtered<'a, T, P> = Through<Suppressed<'a, T, P>>;
 
 /// A session, and the abbreviations after which no boundary is reported.
 #[derive(Drop)]
-pub struct Suppressed<'a, T: EditText, P: Predicate> {
+pub struct Suppressed<'a, T: UnitText, P: Predicate> {
     /// Its cursor stands at a boundary that is reported.
     session: Session<'a, T>,
     /// The abbreviations that the predicate looks for.
@@ -32,7 +35,7 @@ pub struct Suppressed<'a, T: EditText, P: Predicate> {
     keep: P,
 }
 
-impl<'a, T: EditText, P: Predicate> Model for Suppressed<'a, T, P> {
+impl<'a, T: UnitText, P: Predicate> Model for Suppressed<'a, T, P> {
     ghost use Rattle.rbbi_filter.specs.FilterSessions.{FilterSession};
     ghost use Rattle.rbbi_filter.specs.declared.filter.Filter.TheVariants.{Suppressing};
 
@@ -53,7 +56,7 @@ impl<'a, T: EditText, P: Predicate> Model for Suppressed<'a, T, P> {
         suppressed.list.now };
 }
 
-impl<'a, T: EditText, P: Predicate> Through<Suppressed<'a, T, P>> {
+impl<'a, T: UnitText, P: Predicate> Through<Suppressed<'a, T, P>> {
     /// The session through these abbreviations, with the cursor at 0. `keep` answers for at most
     /// 64 characters before a boundary whether they end with one of them. It takes no memory.
     pub fn open(session: Session<'a, T>, list: &'a Abbreviations, keep: P) -> Filtered<'a, T, P>
@@ -74,7 +77,37 @@ impl<'a, T: EditText, P: Predicate> Through<Suppressed<'a, T, P>> {
     }
 }
 
-impl<T: EditText, P: Predicate> Moves for Suppressed<'_, T, P> {
+impl<'a, T: UnitText, P: Predicate + Drop> Through<Suppressed<'a, T, P>> {
+    /// Goes on with a session whose cursor stands at a boundary that is reported past these
+    /// abbreviations. It takes no memory.
+    pub fn resume(session: Session<'a, T>, list: &'a Abbreviations, keep: P) -> Filtered<'a, T, P>
+        requires at_kept { is_suppressed list.now session.state.text session.state.cursor ≡ false }
+        requires tells { AnswersEnds (P.can_ask keep) (P.answers keep) list.now }
+        ensures { result ≡ past list.now session.entry }
+    {
+        Through {
+            moves: Suppressed {
+                session,
+                list,
+                keep,
+            },
+        }
+    }
+
+    /// The session that is asked, at the same boundary. It takes no memory.
+    pub fn into_session(self) -> Session<'a, T>
+        ensures { IsAskedPast self.entry result }
+    {
+        let Suppressed {
+            session,
+            list: _,
+            keep: _,
+        } = self.moves;
+        session
+    }
+}
+
+impl<T: UnitText, P: Predicate> Moves for Suppressed<'_, T, P> {
     type Text = T;
 
     ghost session = { λ suppressed. suppressed };

@@ -1,16 +1,18 @@
 //! A session that looks for boundaries in a text whose characters are turned by a map.
-ghost use Rattle.std.specs.Prelude.{IfOk};
+ghost use Rattle.std.specs.Prelude.{◌≡◌, IfOk, MatchResult};
+ghost use Rattle.rbbi_model.specs.Scripts.{opened};
 ghost use Rattle.rbbi_filter.specs.Closures.{Turns};
 ghost use Rattle.rbbi_filter.specs.declared.filter.Filter.TheVariants.{Turning};
 ghost use Rattle.rbbi_filter.specs.FilterSessions.{IsOpened};
+ghost use Rattle.rbbi_filter.specs.FilterPausing.{IsPausedTurned, IsTurnedOf, turning};
 
 use crate::moves::Moves;
 use crate::through::Through;
 use crate::{CharMap, Mapped, Tailoring};
 use rbbi_cache::Cache;
-use rbbi_session::character_count;
+use rbbi_session::{Paused, character_count};
 use rbbi_table::Table;
-use rbbi_text::{Chars, EditErr, EditText, Steps};
+use rbbi_text::{Chars, EditErr, Pieces, Steps, UnitText};
 use std::alloc::{AllocError, Global};
 use std::marker::Model;
 use std::sync::ledger::Ledger;
@@ -22,7 +24,7 @@ pub type Tailored<'a, T, G> = Through<Turned<'a, T, G>>;
 
 /// A text as it is, and boundaries that were found in the text as it is turned.
 #[derive(Drop)]
-pub struct Turned<'a, T: EditText, G: CharMap> {
+pub struct Turned<'a, T: UnitText, G: CharMap> {
     table: &'a Table,
     text: T,
     /// The pairs by which the map turns characters.
@@ -36,7 +38,7 @@ pub struct Turned<'a, T: EditText, G: CharMap> {
     cache: Cache,
 }
 
-impl<'a, T: EditText, G: CharMap> Model for Turned<'a, T, G> {
+impl<'a, T: UnitText, G: CharMap> Model for Turned<'a, T, G> {
     ghost use Rattle.rbbi_filter.specs.FilterSessions.{FilterSession};
     ghost use Rattle.rbbi_filter.specs.declared.filter.Filter.TheVariants.{Turning};
 
@@ -59,7 +61,7 @@ impl<'a, T: EditText, G: CharMap> Model for Turned<'a, T, G> {
         × Turns (G.can_map turning.map) (G.maps turning.map) turning.pairs.now };
 }
 
-impl<'a, T: EditText + Drop, G: CharMap + Drop> Through<Turned<'a, T, G>> {
+impl<'a, T: UnitText + Drop, G: CharMap + Drop> Through<Turned<'a, T, G>> {
     /// A session over a text, with the cursor at 0. `map` turns characters as these pairs say.
     /// After the refusal the text is dropped.
     pub fn open(
@@ -89,7 +91,115 @@ impl<'a, T: EditText + Drop, G: CharMap + Drop> Through<Turned<'a, T, G>> {
     }
 }
 
-impl<T: EditText, G: CharMap> Moves for Turned<'_, T, G> {
+/// A session through pairs that has let go of its table and its pairs.
+#[derive(Drop)]
+pub struct PausedTailored {
+    text: Pieces,
+    at: u32,
+    status: u16,
+    cache: Cache,
+}
+
+impl Model for PausedTailored {
+    ghost use Rattle.rbbi_session.specs.Pausing.{Paused};
+
+    ghost Value = { Paused };
+
+    ghost view = { λ paused. record {
+      state = record { text = paused.text; cursor = paused.at };
+      list = paused.status;
+      runs = paused.cache.runs;
+      slashes = paused.cache.slashes;
+    } };
+}
+
+impl PausedTailored {
+    /// The text.
+    pub fn text(&self) -> &Pieces
+        ensures { result.now ≡ self.now.state.text }
+    {
+        &self.text
+    }
+
+    /// From a session by a table to one through pairs over the same text, with the cursor at 0.
+    /// After the refusal for memory the session is given back as it was.
+    pub(crate) fn open(
+        alloc: Global,
+        table: &Table,
+        paused: Paused<Pieces>,
+        pairs: &Tailoring,
+    ) -> Result<PausedTailored, Paused<Pieces>>
+        ensures { MatchResult result (λ turned. (turned.state ≡ opened paused.state.text)
+            × IsPausedTurned table.now pairs.now turned) (λ former. former ≡ paused) }
+    {
+        table.valid();
+        match Cache::new(alloc, table) {
+            Ok(cache) => Ok(PausedTailored {
+                text: paused.into_text(),
+                at: 0,
+                status: 0,
+                cache,
+            }),
+            Err(_) => Err(paused),
+        }
+    }
+}
+
+impl<'a, G: CharMap + Drop> Through<Turned<'a, Pieces, G>> {
+    /// Goes on with the table and the pairs that a session was paused by. `map` turns characters as
+    /// these pairs say. It takes no memory.
+    pub fn resume(
+        table: &'a Table,
+        paused: PausedTailored,
+        pairs: &'a Tailoring,
+        map: G,
+    ) -> Tailored<'a, Pieces, G>
+        requires fits { IsPausedTurned table.now pairs.now paused }
+        requires turns { Turns (G.can_map map) (G.maps map) pairs.now }
+        ensures { result ≡ turning table.now pairs.now paused }
+    {
+        let PausedTailored {
+            text,
+            at,
+            status,
+            cache,
+        } = paused;
+        Through {
+            moves: Turned {
+                table,
+                text,
+                pairs,
+                map,
+                at,
+                status,
+                cache,
+            },
+        }
+    }
+
+    /// Lets go of the table and the pairs. It takes no memory.
+    pub fn pause(self) -> PausedTailored
+        ensures { IsTurnedOf self.entry result }
+    {
+        let Turned {
+            table: _,
+            text,
+            pairs: _,
+            map: _,
+            at,
+            status,
+            cache,
+        } = self.moves;
+        PausedTailored {
+            text,
+            at,
+            status,
+            cache,
+        }
+    }
+}
+
+impl<T: UnitText, G: CharMap> Moves for Turned<'_, T, G> {
     type Text = T;
 
     ghost session = { λ turning. turning };

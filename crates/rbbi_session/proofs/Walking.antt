@@ -28,7 +28,7 @@ pub is_measured : (unit : TextUnit) (x : List ℕ) (bs : List Boundary) (p : ℕ
 is_measured unit x [] p here = here
 is_measured unit x (b ∷ bs) p here = ⊎_elim (λ same. inl (ap (offset_of unit x) same)) (λ later. inr (is_measured unit x bs p later)) here
 
-was_measured : (unit : TextUnit) (x : List ℕ) (bs : List Boundary) (o : ℕ) → IsPlaceOf (measured unit x bs) o →
+pub was_measured : (unit : TextUnit) (x : List ℕ) (bs : List Boundary) (o : ℕ) → IsPlaceOf (measured unit x bs) o →
     (p : ℕ) × IsPlaceOf bs p × (offset_of unit x p ≡ o)
 was_measured unit x [] o here = absurd here
 was_measured unit x (b ∷ bs) o here =
@@ -36,11 +36,11 @@ was_measured unit x (b ∷ bs) o here =
 
 -- the boundaries of a text cover it in each unit
 module _ (unit : TextUnit) (x : List ℕ) where
-  begins : (bs : List Boundary) → BeginAtZero bs → BeginAtZero (measured unit x bs)
+  pub begins : (bs : List Boundary) → BeginAtZero bs → BeginAtZero (measured unit x bs)
   begins [] begin = begin
   begins (b ∷ bs) begin = ap (offset_of unit x) begin
 
-  rises : (bs : List Boundary) → AllByRecursion (λ b. b.at ≤ length x) bs → IsRising (places bs) → IsRising (places (measured unit x bs))
+  pub rises : (bs : List Boundary) → AllByRecursion (λ b. b.at ≤ length x) bs → IsRising (places bs) → IsRising (places (measured unit x bs))
   rises [] within rising = tt
   rises (b ∷ []) within rising = tt
   rises (b ∷ c ∷ bs) within rising = (offset_rises unit x b.at c.at rising.0 within.1.0, rises (c ∷ bs) within.1 rising.1)

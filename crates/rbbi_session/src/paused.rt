@@ -44,6 +44,27 @@ impl<T: EditText> Model for Paused<T> {
     } };
 }
 
+impl<T: EditText> Paused<T> {
+    /// The text.
+    pub fn text(&self) -> &T
+        ensures { T.characters result.now ≡ self.now.state.text }
+    {
+        &self.kept.text
+    }
+
+    /// The text alone. It takes no memory.
+    pub fn into_text(self) -> T
+        ensures { T.characters result ≡ self.state.text }
+    {
+        let Kept {
+            text,
+            here: _,
+            cache: _,
+        } = Box::into_inner(self.kept);
+        text
+    }
+}
+
 impl<'a, T: EditText> Session<'a, T> {
     /// Lets go of the table. It takes no memory.
     pub fn pause(self) -> Paused<T>

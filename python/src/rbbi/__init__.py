@@ -241,6 +241,27 @@ class Session(_Closing):
             checked(LIBRARY.rbbi_session_fork(self._ref, copy._ref))
         return copy
 
+    def suppress(self, abbreviations: Text) -> None:
+        """From now on no boundary is told before which an abbreviation stands, as `Mr.`.
+
+        `abbreviations` is a file of them, one a line (docs/formats.md). The cursor goes to 0. From
+        then on `fork`, `replace_changed`, `segment`, `boundaries`, `boundaries_before` and a second
+        filter raise `Error`. Raises `Fault` for a fault of the file.
+        """
+        self._filter(LIBRARY.rbbi_session_suppress, _bytes(abbreviations))
+
+    def tailor(self, pairs: Text) -> None:
+        """From now on boundaries are those of the text with its characters turned by pairs.
+
+        `pairs` is a file of them, one a line (docs/formats.md). Else it is as `suppress`.
+        """
+        self._filter(LIBRARY.rbbi_session_tailor, _bytes(pairs))
+
+    def _filter(self, call: Callable[..., int], file: bytes) -> None:
+        fault = CFault()
+        with self._lock:
+            checked(call(self._ref, file, len(file), ctypes.byref(fault)), fault)
+
     def _begin(self) -> None:
         _Closing.__init__(self)
         self._place = ctypes.c_uint32()

@@ -24,6 +24,7 @@ class Answer(enum.IntEnum):
     FAULT = 11
     NAME = 12
     LONE = 13
+    FILTERED = 14
 
 
 class Handle(ctypes.Structure):
@@ -123,6 +124,8 @@ def _loaded() -> Any:
         'session_open': [handle, handle, text, size, flag],
         'session_open_utf16': [handle, handle, room, size, flag, numbers],
         'session_fork': [handle, handle],
+        'session_suppress': [handle, text, size, fault],
+        'session_tailor': [handle, text, size, fault],
         'session_replace': [handle, number, number, text, size],
         'session_replace_changed': [handle, number, number, text, size, ctypes.POINTER(CChange)],
         'session_replace_utf16': [handle, number, number, room, size, numbers],

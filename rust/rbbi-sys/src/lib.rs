@@ -50,6 +50,7 @@ pub const RBBI_ROOM: c_int = 10;
 pub const RBBI_FAULT: c_int = 11;
 pub const RBBI_NAME: c_int = 12;
 pub const RBBI_LONE: c_int = 13;
+pub const RBBI_FILTERED: c_int = 14;
 
 pub const RBBI_CHARS: c_int = 0;
 pub const RBBI_UTF8: c_int = 1;
@@ -111,6 +112,18 @@ extern "C" {
         lone: *mut u32,
     ) -> c_int;
     pub fn rbbi_session_fork(session: *mut rbbi_handle, copy: *mut rbbi_handle) -> c_int;
+    pub fn rbbi_session_suppress(
+        session: *mut rbbi_handle,
+        list: *const c_void,
+        length: usize,
+        fault: *mut rbbi_fault,
+    ) -> c_int;
+    pub fn rbbi_session_tailor(
+        session: *mut rbbi_handle,
+        pairs: *const c_void,
+        length: usize,
+        fault: *mut rbbi_fault,
+    ) -> c_int;
     pub fn rbbi_session_close(session: *mut rbbi_handle);
     pub fn rbbi_session_replace(
         session: *mut rbbi_handle,

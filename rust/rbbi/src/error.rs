@@ -50,6 +50,8 @@ pub enum Error {
     Lone(u32),
     /// Memory ran out.
     Memory,
+    /// The session has a filter, which the call doesn't serve.
+    Filtered,
     /// Another answer of the library, by its number in `rbbi.h`.
     Answer(c_int),
 }
@@ -63,6 +65,7 @@ impl Error {
             rbbi_sys::RBBI_INSIDE => Error::Inside,
             rbbi_sys::RBBI_TOO_LONG => Error::TooLong,
             rbbi_sys::RBBI_MEMORY => Error::Memory,
+            rbbi_sys::RBBI_FILTERED => Error::Filtered,
             _ => Error::Answer(answer),
         }
     }
@@ -79,6 +82,7 @@ impl fmt::Display for Error {
             Error::TooLong => rbbi_sys::RBBI_TOO_LONG,
             Error::Lone(_) => rbbi_sys::RBBI_LONE,
             Error::Memory => rbbi_sys::RBBI_MEMORY,
+            Error::Filtered => rbbi_sys::RBBI_FILTERED,
             Error::Answer(answer) => *answer,
         };
         // SAFETY: every number has a message.

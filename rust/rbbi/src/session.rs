@@ -1,6 +1,6 @@
 //! A text with a table and a cursor.
-use crate::error::{checked, checked_utf16, Error};
-use rbbi_sys::{rbbi_change, rbbi_handle, RBBI_INIT, RBBI_OK, RBBI_ROOM};
+use crate::error::{checked, checked_utf16, told, Error};
+use rbbi_sys::{rbbi_change, rbbi_handle, RBBI_FILTERED, RBBI_INIT, RBBI_OK, RBBI_ROOM};
 use std::ffi::c_int;
 
 /// What places, lengths and numbers of a session count.
@@ -89,6 +89,28 @@ impl Session {
         // SAFETY: the handle holds a session, and that of the copy nothing.
         checked(unsafe { rbbi_sys::rbbi_session_fork(&mut self.handle, &mut copy.handle) })?;
         Ok(copy)
+    }
+
+    /// From now on no boundary is told before which an abbreviation stands, as `Mr.`. The cursor goes
+    /// to 0. `abbreviations` is a file of them, one a line (docs/formats.md). From then on `fork`,
+    /// `replace_changed` and a second filter are refused, and `segment`, `boundaries` and
+    /// `boundaries_before` panic.
+    pub fn suppress(&mut self, abbreviations: &[u8]) -> Result<(), Error> {
+        let (file, length) = (abbreviations.as_ptr().cast(), abbreviations.len());
+        // SAFETY: the handle holds a session, and the file is live.
+        told(|fault| unsafe {
+            rbbi_sys::rbbi_session_suppress(&mut self.handle, file, length, fault)
+        })
+    }
+
+    /// From now on boundaries are those of the text with its characters turned by pairs. `pairs` is a
+    /// file of them, one a line (docs/formats.md). Else it is as `suppress`.
+    pub fn tailor(&mut self, pairs: &[u8]) -> Result<(), Error> {
+        let (file, length) = (pairs.as_ptr().cast(), pairs.len());
+        // SAFETY: as in `suppress`.
+        told(|fault| unsafe {
+            rbbi_sys::rbbi_session_tailor(&mut self.handle, file, length, fault)
+        })
     }
 
     fn asked(&mut self, question: Question) -> Option<u32> {
@@ -249,7 +271,8 @@ impl Session {
     }
 
     /// The segment that holds the character after a place, as the word at an editor's cursor. None
-    /// at the end of the text and past it. The session's cursor stays.
+    /// at the end of the text and past it. The session's cursor stays. Panics where the session has a
+    /// filter.
     pub fn segment(&mut self, place: u32) -> Option<Segment> {
         let (mut start, mut end, mut status) = (0, 0, 0);
         // SAFETY: the handle holds a session, and the numbers are live.
@@ -257,6 +280,7 @@ impl Session {
             let handle = &mut self.handle;
             rbbi_sys::rbbi_session_segment(handle, place, &mut start, &mut end, &mut status)
         };
+        assert_ne!(answer, RBBI_FILTERED, "the session has a filter");
         (answer == RBBI_OK).then_some(Segment { start, end, status })
     }
 
@@ -378,6 +402,7 @@ impl Iterator for Chunks<'_> {
                 &mut self.from,
             )
         };
+        assert_ne!(answer, RBBI_FILTERED, "the session has a filter");
         self.more = answer == RBBI_ROOM;
         places.truncate(count);
         statuses.truncate(count);

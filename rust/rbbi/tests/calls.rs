@@ -223,6 +223,26 @@ fn the_library_has_four_tables() {
 }
 
 #[test]
+fn filters_leave_boundaries_out_or_turn_characters() {
+    let table = Table::named("sentence").unwrap();
+    let mut session = table.session("I met Mr. Fox. He ran.", Unit::Chars).unwrap();
+    assert_eq!(session.next(), Some(10));
+    session.suppress(b"# titles\nMr.\n").unwrap();
+    assert_eq!((session.next(), session.next(), session.next()), (Some(15), Some(22), None));
+    session.replace(15, 2, "\u{1f98a}").unwrap();
+    assert_eq!((session.last(), session.length()), (21, 21));
+    assert_eq!(session.fork().unwrap_err(), Error::Filtered);
+    let table = Table::compile("[a-z]+; .;").unwrap();
+    let mut session = table.session("a\u{b7}b", Unit::Utf8).unwrap();
+    let Err(Error::Fault(fault)) = session.tailor(b"00B7;61\n") else {
+        panic!()
+    };
+    assert_eq!((fault.name.as_str(), fault.line), ("BadLine", Some(1)));
+    session.tailor(b"00B7;0061\n").unwrap();
+    assert_eq!(session.next(), Some(4));
+}
+
+#[test]
 fn a_fault_has_a_name_and_a_place() {
     let Err(Error::Fault(fault)) = Table::compile("a;\n\u{e4} $;") else {
         panic!()
