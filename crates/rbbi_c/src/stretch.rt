@@ -60,7 +60,7 @@ fn measured(excerpt: &Excerpt<'_>, unit: Unit, from: u32) -> Block
     Block { from, to, even }
 }
 
-/// The block, or where it doesn't begin before these characters and end behind them, the one that
+/// The block, or where it doesn't begin before these characters and end after them, the one that
 /// begins with them.
 #[inline(always)]
 fn block_on(excerpt: &Excerpt<'_>, unit: Unit, from: u32, to: u32, block: Block) -> Block

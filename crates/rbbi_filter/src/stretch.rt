@@ -1,4 +1,4 @@
-//! Many suppressed boundaries in a row, which are passed over going back.
+//! Many consecutive suppressed boundaries, which are passed over going back.
 //!
 //! Each stretch that searches from one anchor find is gone through once, forward. So it takes no
 //! longer than in proportion to what is passed over, also in a text without safe pairs.

@@ -40,7 +40,7 @@ TakesText kind request filter colors texts count name before now =
     (between : Option (List ℕ)) × Takes before between (heading_of request (count == 0) name)
     × ((x : List ℕ) × IsTextOf request.is_lossy texts name x × TakesAnnex kind request filter colors x between now)
 
--- A sink took one text after the other, of these names and no others. `takes` says what taking one does, behind so many.
+-- A sink took one text after the other, of these names and no others. `takes` says what taking one does, after so many.
 pub data AreTakenInTurn (takes : ℕ → List ℕ → Option (List ℕ) → Option (List ℕ) → Type 0) (before : Option (List ℕ)) :
     List (Bor (List ℕ)) → Option (List ℕ) → Type 0 where
   NoText : AreTakenInTurn takes before [] before

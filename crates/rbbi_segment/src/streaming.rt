@@ -51,7 +51,7 @@ impl Sizes {
     };
 }
 
-/// What is told of a text if it can't be read.
+/// What is reported of a text if it can't be read.
 #[derive(Clone, Copy)]
 pub(crate) struct Origin<'a> {
     pub(crate) alloc: Global,

@@ -23,7 +23,7 @@ pub record AreMet (table : Table) (x y : List ℕ) (edit : Edit) (place : ℕ) :
   pub old : is_place_of (table_boundaries table x) place ≡ true
   pub new : is_place_of (table_boundaries table y) (moved edit place) ≡ true
 
--- the texts were searched from where they parted up to the first of these
+-- the texts were searched from where they part up to the first of these
 pub record HaveMet (table : Table) (x y : List ℕ) (edit : Edit) (parting : Parting) (before after : ℕ) : Type 0 where
   pub place : ℕ
   pub met : AreMet table x y edit place

@@ -1,4 +1,4 @@
--- Many suppressed boundaries in a row: what is found on the way back past them.
+-- Many consecutive suppressed boundaries: what is found on the way back past them.
 use Rattle.std.specs.Prelude.{◌≡◌, ℕ, ◌+◌, ◌≤◌, true, false, List, Option, Some, None}
 use Rattle.rbbi_model.specs.Tables.{Table}
 use Rattle.rbbi_model.specs.Searches.{table_boundaries}
