@@ -5,8 +5,8 @@ ghost use Rattle.rbbi_c.specs.Calls.{AnswersThrough, EditsThrough, IsNoText, cod
 
 use crate::asking::{Ask, Told};
 use crate::codes;
-use crate::handle::Handle;
 use crate::filter_lending::lend_filtered;
+use crate::handle::Handle;
 use crate::lending::lend;
 use rbbi_session::UnitEditErr;
 use rbbi_text::{MOST_BYTES, Steps, utf8_text};

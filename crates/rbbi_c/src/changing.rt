@@ -5,8 +5,8 @@ ghost use Rattle.rbbi_c.specs.inner.Removing.{IsRemoved, IsNotRemoved, IsEditOf}
 
 use crate::answering::{edit_code, text_of};
 use crate::codes;
-use crate::handle::Handle;
 use crate::filter_lending::unserved_by;
+use crate::handle::Handle;
 use crate::lending::lend;
 use crate::part::copy_of;
 use crate::span::span_of;

@@ -9,8 +9,8 @@ ghost use Rattle.rbbi_c.specs.Listing.{ListsRangeThrough, SegmentThrough, progre
 
 use crate::codes;
 use crate::copying::copy_front;
-use crate::handle::Handle;
 use crate::filter_lending::{lend_filtered, unserved_by};
+use crate::handle::Handle;
 use crate::lending::lend;
 use crate::listing::Listing;
 use crate::segment::Segment;

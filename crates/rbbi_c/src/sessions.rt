@@ -7,9 +7,9 @@ ghost use Rattle.rbbi_c.specs.Reading.{MeasuresThrough, ListsThrough};
 
 use crate::answering::edit_through;
 use crate::codes;
+use crate::filter_lending::lend_filtered;
 use crate::handle::Handle;
 use crate::held::Held;
-use crate::filter_lending::lend_filtered;
 use crate::lending::lend;
 use crate::opening::{is_open, keep, session_of};
 use rbbi_text::Steps;
