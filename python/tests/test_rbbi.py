@@ -143,8 +143,8 @@ class Sessions(unittest.TestCase):
             self.assertEqual(session.next(), 10)
             session.suppress('# titles\nMr.\n')
             self.assertEqual([segment.end for segment in session], [15, 22])
-            session.replace(15, 2, '\U0001f98a')
-            self.assertEqual(([segment.end for segment in session], len(session)), ([15, 21], 21))
+            session.replace(15, 2, 'We\U0001f98a')
+            self.assertEqual(([segment.end for segment in session], len(session)), ([15, 23], 23))
             for call in (session.fork, session.boundaries, lambda: session.segment(0)):
                 with self.assertRaises(Error) as refused:
                     call()
