@@ -16,7 +16,7 @@ fn count_of(text: &str, kind: &str) -> Option<u64> {
     Some(count as u64)
 }
 
-/// The same of the text that a file has, counted so many times.
+/// Counts the segments of a file's text by the kit's iterators, so many times over.
 pub(crate) fn measure_kit(bytes: &[u8], kind: &str, rounds: u32) -> Option<u64>
     requires { length bytes.now ≤ most_bytes }
 {
