@@ -35,13 +35,7 @@ impl Measure for char {
 fn utf8_size(code: u32) -> u32
     ensures { result ≡ size_of Utf8 code }
 {
-    if code < 0x80 {
-        return 1;
-    }
-    if code < 0x800 {
-        return 2;
-    }
-    if code < 0x10000 { 3 } else { 4 }
+    1 + u32::from(code >= 0x80) + u32::from(code >= 0x800) + u32::from(code >= 0x10000)
 }
 
 /// How much of the unit the items take together.
