@@ -10,3 +10,4 @@ pub mod Even
 mod Digits
 mod AsciiTexts
 mod Between
+mod Nearby

@@ -24,6 +24,9 @@ pub(crate) const FULL: usize = 1024;
 /// The fewest characters of a piece, but for the last.
 pub(crate) const QUARTER: usize = 256;
 
+/// The most characters that are counted one by one between two places of a piece.
+pub(crate) const FEW: u32 = 64;
+
 /// At most 1,024 characters of a text, one after the other. Contracts see it as their list.
 #[derive(Drop)]
 pub(crate) struct Piece {

@@ -1,7 +1,7 @@
 //! A text by pieces.
 ghost use Rattle.std.specs.Prelude.{ℕ, ◌≡◌, ◌+◌, ◌-◌, ◌^◌, ◌<◌, ◌≤◌, [], ◌∷◌, ◌++◌, length, take};
 ghost use Rattle.std.specs.Prelude.{drop, slice_index, slice_index_or, slice_set, chars, IfOk};
-ghost use Rattle.std.specs.Prelude.{OnOk, OnErr, MatchBool, ⊤};
+ghost use Rattle.std.specs.Prelude.{OnOk, OnErr, MatchBool, MatchOption, ⊤};
 ghost use Rattle.rbbi_model.specs.Words.{most_characters};
 ghost use Rattle.rbbi_model.specs.Spelling.{joined};
 ghost use Rattle.rbbi_model.specs.Scripts.{splice};
@@ -15,9 +15,9 @@ ghost use Rattle.rbbi_text.specs.Weighed.{weight_of};
 ghost use Rattle.rbbi_text.specs.Indexes.{IsIndex};
 ghost use Rattle.rbbi_text.specs.Answers.{TakesText, ReadsText};
 
-use crate::measure::Measure;
+use crate::measure::{Measure, fit_in};
 use crate::milestones::{Milestones, before, find, shift_milestones};
-use crate::piece::{FULL, Piece, QUARTER, cut, pieces_of};
+use crate::piece::{FEW, FULL, Piece, QUARTER, cut, pieces_of};
 use crate::places::{character, locate, piece_around, push_starts, shift};
 use crate::plain::{check_edit, put};
 use crate::{
@@ -384,6 +384,37 @@ fn index_in(pieces: &[Piece], starts: &[u32], sums: &[u32], unit: Unit, o: u32) 
     }
 }
 
+/// The place at an offset in a unit, or the last place before it, by a place before it in the same
+/// piece and where that lies. None if it may be further on.
+#[inline]
+fn index_near(
+    pieces: &[Piece],
+    starts: &[u32],
+    unit: Unit,
+    from: u32,
+    offset: u32,
+    o: u32,
+) -> Option<Index>
+    requires cut { AreWholeCut pieces.now starts.now }
+    requires inside { from ≤ length (joined pieces.now) }
+    requires offset { offset ≡ offset_of unit (joined pieces.now) from }
+    ensures { MatchOption result ⊤ (λ index. IsIndex unit (joined pieces.now) o index) }
+{
+    if o < offset || o - offset > FEW {
+        return None;
+    }
+    let number = locate(pieces, starts, from as usize);
+    let rest = pieces[number].behind((from - starts[number]) as usize);
+    let fit = fit_in(rest, unit, o - offset);
+    if fit.count == rest.len() {
+        return None;
+    }
+    Some(Index {
+        at: from + fit.count as u32,
+        whole: offset + fit.units == o,
+    })
+}
+
 /// Makes the pieces ready for a unit.
 fn measure_in(pieces: &mut Vec<Piece>, unit: Unit)
     ensures { pieces.new.items ≡ pieces.old.items }
@@ -426,6 +457,16 @@ impl UnitText for Pieces {
                 let sums = self.milestones.sums_in(unit);
                 index_in(&self.pieces, &self.starts, sums, unit, o)
             }
+        }
+    }
+
+    fn index_from(&self, unit: Unit, from: u32, offset: u32, o: u32) -> Index {
+        if let Unit::Chars = unit {
+            return self.index(unit, o);
+        }
+        match index_near(&self.pieces, &self.starts, unit, from, offset, o) {
+            Some(index) => index,
+            None => self.index(unit, o),
         }
     }
 }
