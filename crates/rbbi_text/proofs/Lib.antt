@@ -9,5 +9,4 @@ pub mod MilestoneLemmas
 pub mod Even
 mod Digits
 mod AsciiTexts
-mod Between
 mod Nearby

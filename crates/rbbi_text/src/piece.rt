@@ -1,7 +1,7 @@
 //! The pieces that a text is cut into.
 ghost use Rattle.std.specs.Prelude.{◌≡◌, ◌+◌, ◌≤◌, ◌<◌, ◌++◌, length, take, drop, slice_index};
 ghost use Rattle.std.specs.Prelude.{IfOk, OnOk, OnErr, MatchOption, MatchBool, [], ◌∷◌, chars, ◌-◌};
-ghost use Rattle.std.specs.Prelude.{sum_by};
+ghost use Rattle.std.specs.Prelude.{sum_by, ⊤};
 ghost use Rattle.std.specs.List.{AllByRecursion, splice};
 ghost use Rattle.rbbi_model.specs.Words.{most_characters};
 ghost use Rattle.rbbi_model.specs.Spelling.{joined};
@@ -9,10 +9,10 @@ ghost use Rattle.rbbi_text.specs.Cuts.{IsFilled, AreFilled, ArePieces};
 ghost use Rattle.rbbi_text.specs.inner.Cuts.{AreSoFar, HaveRoom};
 ghost use Rattle.rbbi_text.specs.Weighed.{weight_of};
 ghost use Rattle.rbbi_text.specs.inner.Fits.{IsFit};
-ghost use Rattle.rbbi_model.specs.Units.{size_of};
+ghost use Rattle.rbbi_model.specs.Units.{size_of, offset_of};
 
 use crate::Unit;
-use crate::measure::{Fit, Measure, fit_characters, taken};
+use crate::measure::{Fit, Measure, fit_characters, taken, total};
 use crate::plain::{MOST_CHARACTERS, put};
 use std::alloc::{AllocError, Global};
 use std::marker::Model;
@@ -149,6 +149,27 @@ impl Piece {
             return all - taken(&self.items[i..], unit);
         }
         taken(&self.items[..i], unit)
+    }
+
+    /// How much of a unit the characters from one number to another take together, where the piece
+    /// has them and each takes one, or they are few.
+    #[inline(always)]
+    pub(crate) fn taken_few(&self, from: u32, to: u32, unit: Unit) -> Option<u32>
+        requires { from ≤ to }
+        ensures { MatchOption result ⊤ (λ units. (to ≤ length self.now)
+            × (offset_of unit self.now from + units ≡ offset_of unit self.now to)) }
+    {
+        let len = self.items.len();
+        if to as usize > len {
+            return None;
+        }
+        if self.units(unit) as usize == len {
+            return Some(to - from);
+        }
+        if to - from > FEW {
+            return None;
+        }
+        Some(total(&self.items[from as usize..to as usize], unit))
     }
 
     /// How many of the characters, from the first on, take at most so much of a unit together.

@@ -363,6 +363,21 @@ fn offset_in(pieces: &[Piece], starts: &[u32], sums: &[u32], unit: Unit, place: 
     before(pieces, sums, unit, piece) + front
 }
 
+/// How much of a unit the characters from one place to another take together, where they are in
+/// one piece and each takes one, or they are few.
+#[inline]
+fn units_near(pieces: &[Piece], starts: &[u32], unit: Unit, from: u32, to: u32) -> Option<u32>
+    requires cut { AreWholeCut pieces.now starts.now }
+    requires forward { from ≤ to }
+    requires inside { from ≤ length (joined pieces.now) }
+    ensures { MatchOption result ⊤ (λ units.
+        offset_of unit (joined pieces.now) from + units ≡ offset_of unit (joined pieces.now) to) }
+{
+    let number = locate(pieces, starts, from as usize);
+    let start = starts[number];
+    pieces[number].taken_few(from - start, to - start, unit)
+}
+
 /// The place at an offset in a unit, by its milestones, or the last place before it.
 fn index_in(pieces: &[Piece], starts: &[u32], sums: &[u32], unit: Unit, o: u32) -> Index
     requires cut { AreWholeCut pieces.now starts.now }
@@ -433,6 +448,17 @@ impl UnitText for Pieces {
                 let sums = self.milestones.sums_in(unit);
                 offset_in(&self.pieces, &self.starts, sums, unit, place)
             }
+        }
+    }
+
+    fn offset_from(&self, unit: Unit, from: u32, offset: u32, i: u32) -> u32 {
+        if let Unit::Chars = unit {
+            return i;
+        }
+        match units_near(&self.pieces, &self.starts, unit, from.min(i), from.max(i)) {
+            Some(units) if from <= i => offset + units,
+            Some(units) => offset - units,
+            None => self.offset(unit, i),
         }
     }
 

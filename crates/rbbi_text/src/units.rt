@@ -1,11 +1,9 @@
 //! Texts whose places are found, or counted on, in other units than characters.
-ghost use Rattle.std.specs.Prelude.{◌≡◌, ◌+◌, ◌^◌, ◌<◌, ◌≤◌, ℕ, List, length, MatchOption, ⊤};
+ghost use Rattle.std.specs.Prelude.{◌≡◌, ◌+◌, ◌^◌, ◌<◌, ◌≤◌, length};
 ghost use Rattle.rbbi_model.specs.Units.{offset_of};
-ghost use Rattle.rbbi_text.specs.Excerpts.{IsExcerptOf};
 ghost use Rattle.rbbi_text.specs.Indexes.{IsIndex};
 
-use crate::measure::taken;
-use crate::{Chars, EditText, Excerpt, Unit};
+use crate::{Chars, EditText, Unit};
 
 /// The place at an offset, or the last one before it.
 #[derive(Clone, Copy, Debug, PartialEq, Eq)]
@@ -16,28 +14,6 @@ pub struct Index {
     pub whole: bool,
 }
 
-/// The most characters between two places that are counted.
-const FEW: usize = 64;
-
-/// How much of a unit the characters from one place to another take together, where they are few and
-/// the excerpt has them.
-#[inline(always)]
-fn between(excerpt: &Excerpt<'_>, unit: Unit, from: u32, to: u32) -> Option<u32>
-    requires { from ≤ to }
-    ensures { (x : List ℕ) → IsExcerptOf x excerpt.now → MatchOption result ⊤
-        (λ units. offset_of unit x from + units ≡ offset_of unit x to) }
-{
-    if from < excerpt.from {
-        return None;
-    }
-    let start = (from - excerpt.from) as usize;
-    let end = (to - excerpt.from) as usize;
-    if end > excerpt.items.len() || end - start > FEW {
-        return None;
-    }
-    Some(taken(&excerpt.items[start..end], unit))
-}
-
 /// A text that knows where its places lie in each unit. Only `make_ready` takes memory, and no call
 /// gives a character.
 pub trait UnitText: EditText {
@@ -46,25 +22,15 @@ pub trait UnitText: EditText {
         requires { i ≤ length (Self.characters self.now) }
         ensures { result ≡ offset_of unit (Self.characters self.now) i };
 
-    /// Where a place lies, by another place and where that lies: few characters between them are
-    /// counted.
+    /// Where a place lies, by another place and where that lies: few characters between them may be
+    /// counted. By default it is `offset`.
     fn offset_from(&self, unit: Unit, from: u32, offset: u32, i: u32) -> u32
         requires from { from ≤ length (Self.characters self.now) }
         requires offset { offset ≡ offset_of unit (Self.characters self.now) from }
         requires within { i ≤ length (Self.characters self.now) }
         ensures { result ≡ offset_of unit (Self.characters self.now) i }
     {
-        if let Unit::Chars = unit {
-            return i;
-        }
-        // That offsets are small is known of the text's length.
-        let _short = self.len();
-        let excerpt = self.excerpt(from.min(i));
-        match between(&excerpt, unit, from.min(i), from.max(i)) {
-            Some(units) if from <= i => offset + units,
-            Some(units) => offset - units,
-            None => self.offset(unit, i),
-        }
+        self.offset(unit, i)
     }
 
     /// Makes a text that keeps milestones ready to find places in a unit without long walks, as far
@@ -77,7 +43,7 @@ pub trait UnitText: EditText {
         ensures { IsIndex unit (Self.characters self.now) o result };
 
     /// The place at an offset, or the last place before it, by a place before it and where that
-    /// lies: few characters between them are counted.
+    /// lies: few characters between them may be counted. By default it is `index`.
     fn index_from(&self, unit: Unit, from: u32, offset: u32, o: u32) -> Index
         requires from { from ≤ length (Self.characters self.now) }
         requires offset { offset ≡ offset_of unit (Self.characters self.now) from }
