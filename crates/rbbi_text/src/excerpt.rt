@@ -16,6 +16,7 @@ pub struct Excerpt<'a> {
 }
 
 impl<'a> Model for Excerpt<'a> {
+    ghost use Rattle.std.specs.Prelude.{◌+◌, ◌^◌, ◌≤◌, length};
     ghost use Rattle.rbbi_text.specs.Excerpts.{Excerpt};
     ghost use Rattle.rbbi_text.specs.Texts.{IsShortText};
 
@@ -23,7 +24,8 @@ impl<'a> Model for Excerpt<'a> {
 
     ghost view = { λ excerpt. record { from = excerpt.from; items = excerpt.items.now } };
 
-    ghost invariant = { λ excerpt. IsShortText excerpt.items.now };
+    ghost invariant = { λ excerpt. IsShortText excerpt.items.now
+        × (excerpt.from + length excerpt.items.now ≤ 2 ^ 32) };
 }
 
 impl<'a> Excerpt<'a> {
@@ -51,10 +53,8 @@ impl<'a> Excerpt<'a> {
         ensures { (x : List ℕ) → IsExcerptOf x self.now →
             MatchOption result ⊤ (λ c. c ≡ slice_index x i) }
     {
-        if i < self.from {
-            return None;
-        }
-        let k = (i - self.from) as usize;
+        // Before the first of them this is past the last.
+        let k = i.wrapping_sub(self.from) as usize;
         if k < self.items.len() {
             Some(self.items[k])
         } else {

@@ -1,5 +1,5 @@
 //! Texts with a stretch of their characters at hand.
-ghost use Rattle.std.specs.Prelude.{◌≡◌, ◌≤◌, length};
+ghost use Rattle.std.specs.Prelude.{◌≡◌, ◌+◌, ◌<◌, ◌≤◌, length, slice_index};
 
 use crate::{Chars, Excerpt, Steps};
 use std::marker::Model;
@@ -51,7 +51,18 @@ impl<T: Chars> Chars for Near<'_, T> {
                 steps.tick();
                 c
             }
-            None => self.text.char_at(i, steps),
+            None => far(self.text, i, steps),
         }
     }
+}
+
+/// A character that isn't at hand. It is a call of its own, so that what stands at hand takes few
+/// instructions wherever it is read.
+#[inline(never)]
+fn far<T: Chars, L: Ledger>(text: &T, i: u32, steps: &mut Steps<L>) -> char
+    requires { i < length (T.characters text.now) }
+    ensures character { result ≡ slice_index (T.characters text.now) i }
+    ensures step { steps.new ≡ steps.old + 1 }
+{
+    text.char_at(i, steps)
 }
