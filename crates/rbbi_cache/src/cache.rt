@@ -205,8 +205,7 @@ impl Cache {
         if i < self.quiet_from || self.quiet_to <= i {
             return None;
         }
-        let near = Near::new(text, i);
-        self.runs.step(table, &near, i, &mut self.marks, steps)
+        self.runs.step(table, text, i, &mut self.marks, steps)
     }
 
     /// As `find_after` for the kept runs. If no other one can show it, only the first is asked.
@@ -262,11 +261,11 @@ impl Cache {
         table.valid();
         // That the text is short is known of its length.
         let _short = text.len();
-        let near = Near::new(text, i);
-        if let Some(entry) = self.runs.step(table, &near, i, &mut self.marks, steps) {
+        if let Some(entry) = self.runs.step(table, text, i, &mut self.marks, steps) {
             self.mark_quiet(entry.at);
             return entry;
         }
+        let near = Near::new(text, i);
         self.find_past_near(table, &near, i, steps)
     }
 
