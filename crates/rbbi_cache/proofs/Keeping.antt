@@ -20,6 +20,12 @@ use Rattle.rbbi_cache.proofs.RightPart.{entries_rise}
 use Rattle.rbbi_cache.proofs.Among.{among_itself}
 use Rattle.rbbi_cache.proofs.PutFirst.{all_of_left}
 
+-- the first run stands first as it is
+pub first_stays : (runs : List Run) (k : ℕ) → k ≡ 0 → (before after : List Run) (run : Run) → runs ≡ before ++ run ∷ after → length before ≡ k →
+    runs ≡ run ∷ (before ++ after)
+first_stays runs k first [] after run whole number = whole
+first_stays runs k first (other ∷ before) after run whole number = absurd (omega arith)
+
 module _ (table : Table) (valid : IsValidTable table) (x : List ℕ) where
   anchor_within : (p : ℕ) → IsAnchor table x p → p ≤ length x
   anchor_within p anchor = ⊎_elim (λ zero. omega arith) (λ pair. omega (arith, pair.0)) anchor

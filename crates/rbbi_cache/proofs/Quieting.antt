@@ -1,10 +1,10 @@
 -- Runs that show no boundary past the places of a stretch.
 use Rattle.std.proofs.Common.{◌≡◌, ℕ, ◌<◌, ◌≤◌, List, [], ◌∷◌, ◌++◌, length, take, drop, sym, ap, ◌∙◌, subst, append_assoc, arith}
-use Rattle.std.specs.Prelude.{Option, Some, None, MatchOption}
+use Rattle.std.specs.Prelude.{Option, Some, None, MatchOption, ⊤}
 use Rattle.std.specs.List.{AllByRecursion}
 use Rattle.std.proofs.lemmas.List.{take-append-drop}
 use Rattle.std.proofs.Math.Seq.{drop-length}
-use Rattle.rbbi_model.specs.Runs.{Run, ShowsAfter}
+use Rattle.rbbi_model.specs.Runs.{Entry, Run, ShowsAfter}
 use Rattle.rbbi_model.proofs.Lists.{all_append, all_through}
 use Rattle.rbbi_cache.specs.declared.runs.Shown.{Shown}
 use Rattle.rbbi_cache.specs.Shown.{IsShownAfter}
@@ -69,3 +69,27 @@ pub first_tells : (runs : List Run) (from to i : ℕ) → AreQuiet from to runs 
 first_tells runs from to i quiet low high None none = none_of_all runs from to i quiet low high none
 first_tells runs from to i quiet low high (Some shown) at =
     has_of_all (λ run. IsShownAfter run i shown.entry) runs (take 1 runs) (drop 1 runs) shown.run (take-append-drop 1 runs) at
+
+module _ (i : ℕ) (entry : Option Entry) where
+  -- what the first run doesn't show
+  pub unknown_to_first : (run : Run) (rest runs : List Run) → runs ≡ run ∷ rest → MatchOption entry ⊤ (λ _. (a : ℕ) → ShowsAfter run i a → ⊥) →
+      MatchOption entry ⊤ (λ _. AllByRecursion (λ run. (a : ℕ) → ShowsAfter run i a → ⊥) (take 1 runs))
+  unknown_to_first run rest runs is none =
+      subst (λ l. MatchOption entry ⊤ (λ _. AllByRecursion (λ run. (a : ℕ) → ShowsAfter run i a → ⊥) (take 1 l))) (sym is) (of_one entry none)
+    where
+      of_one : (found : Option Entry) → MatchOption found ⊤ (λ _. (a : ℕ) → ShowsAfter run i a → ⊥) →
+          MatchOption found ⊤ (λ _. AllByRecursion (λ run. (a : ℕ) → ShowsAfter run i a → ⊥) (take 1 (run ∷ rest)))
+      of_one None none = tt
+      of_one (Some e) none = (none, tt)
+
+  -- none does, where the others are quiet
+  pub unknown_to_all : (inside runs : List Run) → inside ≡ runs → (from to : ℕ) → AreQuiet from to inside → from ≤ i → i < to →
+      MatchOption entry ⊤ (λ _. AllByRecursion (λ run. (a : ℕ) → ShowsAfter run i a → ⊥) (take 1 inside)) →
+      MatchOption entry ⊤ (λ _. AllByRecursion (λ run. (a : ℕ) → ShowsAfter run i a → ⊥) runs)
+  unknown_to_all inside runs is from to quiet low high none =
+      subst (λ l. MatchOption entry ⊤ (λ _. AllByRecursion (λ run. (a : ℕ) → ShowsAfter run i a → ⊥) l)) is (of_all entry none)
+    where
+      of_all : (found : Option Entry) → MatchOption found ⊤ (λ _. AllByRecursion (λ run. (a : ℕ) → ShowsAfter run i a → ⊥) (take 1 inside)) →
+          MatchOption found ⊤ (λ _. AllByRecursion (λ run. (a : ℕ) → ShowsAfter run i a → ⊥) inside)
+      of_all None none = tt
+      of_all (Some e) none = none_of_all inside from to i quiet low high none

@@ -8,6 +8,7 @@ use Rattle.std.proofs.lemmas.List.{take-append-drop, take_more, take_all}
 use Rattle.std.proofs.Math.Seq.{drop-cons, drop-length}
 use Rattle.rbbi_model.specs.Lists.{IsRising}
 use Rattle.rbbi_model.specs.Runs.{Entry, Run, low, EndsUpTo, StartsFrom, ShowsAfter, ShowsBefore}
+use Rattle.rbbi_cache.specs.inner.Lists.{GoesOnFrom}
 use Rattle.rbbi_cache.specs.inner.Shown.{AreUpTo}
 use Rattle.rbbi_cache.specs.Shown.{IsShownAfter, IsShownBefore}
 use Rattle.rbbi_model.proofs.Rising.{rising_tail}
@@ -227,3 +228,18 @@ module _ (run : Run) (behind : AllByRecursion (λ f. run.anchor ≤ f.at) run.en
 
   pub none_up_to_anchor : (x : List ℕ) (i : ℕ) → 0 < i → i ≤ run.anchor → (a : ℕ) → ShowsBefore x run i a → ⊥
   none_up_to_anchor x i some before = none_before x run i 0 d some (after_all (i - 1) (omega arith)) refl
+
+-- a run whose last entry isn't past the place
+up_to_last : (front : List Entry) (last : Entry) (i : ℕ) → IsRising (map (λ f. f.at) (front ++ last ∷ [])) → last.at ≤ i →
+    AllByRecursion (λ f. f.at ≤ i) (front ++ last ∷ [])
+up_to_last [] last i rising less = (less, tt)
+up_to_last (e ∷ front) last i rising less =
+    let first : e.at < last.at = (all_right (λ f. e.at < f.at) front (last ∷ []) (rises_past e (front ++ last ∷ []) rising)).0 in
+    (omega (arith, first, less), up_to_last front last i (rising_tail e.at (map (λ f. f.at) (front ++ last ∷ [])) rising) less)
+
+pub none_past_last : (run : Run) (i : ℕ) (last : Entry) → IsRising (map (λ f. f.at) run.entries) → GoesOnFrom i last run → (a : ℕ) → ShowsAfter run i a → ⊥
+none_past_last run i last rising goes a shows =
+    let each = up_to_last goes.front last i (subst (λ l. IsRising (map (λ f. f.at) l)) goes.whole rising) goes.up_to in
+    let here : shows.entry.at ≤ i =
+    (all_right (λ f. f.at ≤ i) shows.before (shows.entry ∷ shows.after) (subst (AllByRecursion (λ f. f.at ≤ i)) (sym goes.whole ∙ shows.whole) each)).0 in
+    omega (arith, here, shows.at, shows.past)

@@ -1,5 +1,5 @@
 //! The cache, and the questions that it answers.
-ghost use Rattle.std.specs.Prelude.{◌≡◌, ℕ, ◌+◌, ◌<◌, ◌≤◌, [], length, MatchOption, IfOk};
+ghost use Rattle.std.specs.Prelude.{◌≡◌, ℕ, ◌+◌, ◌<◌, ◌≤◌, [], length, MatchOption, IfOk, ⊤};
 ghost use Rattle.rbbi_model.specs.Words.{most_characters};
 ghost use Rattle.rbbi_model.specs.Costs.{anchor_below, searches_cost, forward_cost, back_cost};
 ghost use Rattle.rbbi_model.specs.Costs.{preceding_cost};
@@ -117,11 +117,16 @@ impl Cache {
         if i >= text.len() {
             return None;
         }
+        if let Some(entry) = self.step_on(table, text, i, steps) {
+            return Some(entry);
+        }
         let mut hint = self.hint;
         if let Some(shown) = self.find_shown(&mut hint, i) {
             self.hint = hint;
-            self.quiet_to = 0;
-            self.runs.move_to_front(shown.run);
+            if shown.run > 0 {
+                self.quiet_to = 0;
+                self.runs.move_to_front(shown.run);
+            }
             return Some(shown.entry);
         }
         Some(self.find_past(table, text, i, steps))
@@ -172,6 +177,36 @@ impl Cache {
             return Some(self.find_past(table, text, len - 1, steps));
         }
         Some(self.find_back(table, text, i, steps))
+    }
+
+    /// Takes one boundary more into the first run, where its last entry lies at `i`, there is room
+    /// for one more, and it is known that no other run shows a boundary past `i`.
+    #[inline]
+    fn step_on<T: Chars, L: Ledger>(
+        &mut self,
+        table: &Table,
+        text: &T,
+        i: u32,
+        steps: &mut Steps<L>,
+    ) -> Option<Entry>
+        requires fit { self.old.slashes ≡ table.now.slashes }
+        requires are_true { AreTrueRuns table.now (T.characters text.now) self.old.runs }
+        requires within { i < length (T.characters text.now) }
+        requires small { i < most_characters }
+        ensures kept { MatchOption result ((self.new ≡ self.old) × (steps.new ≡ steps.old))
+            (λ entry. KeepsTrue table.now (T.characters text.now)
+            (λ run. IsShownAfter run i entry) self.old.runs self.new.runs) }
+        ensures unknown { MatchOption result ⊤ (λ _. AllByRecursion
+            (λ run. (a : ℕ) → ¬ ShowsAfter run i a) self.old.runs) }
+        ensures fit { self.new.slashes ≡ self.old.slashes }
+        ensures more { steps.old ≤ steps.new }
+        ensures cost { steps.new ≤ steps.old + forward_cost table.now (T.characters text.now) i }
+    {
+        if i < self.quiet_from || self.quiet_to <= i {
+            return None;
+        }
+        let near = Near::new(text, i);
+        self.runs.step(table, &near, i, &mut self.marks, steps)
     }
 
     /// As `find_after` for the kept runs. If no other one can show it, only the first is asked.

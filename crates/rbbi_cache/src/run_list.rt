@@ -1,6 +1,7 @@
 //! The kept runs, in slots that are made once.
 ghost use Rattle.std.specs.Prelude.{◌≡◌, ℕ, ◌+◌, ◌<◌, ◌≤◌, [], ◌∷◌, ◌++◌, map, drop, length, List};
-ghost use Rattle.std.specs.Prelude.{IfOk, MatchOption};
+ghost use Rattle.std.specs.Prelude.{IfOk, MatchOption, ⊤, take};
+ghost use Rattle.std.specs.List.{AllByRecursion};
 ghost use Rattle.rbbi_model.specs.Lists.{IsRising};
 ghost use Rattle.rbbi_model.specs.Words.{most_characters};
 ghost use Rattle.rbbi_model.specs.Runs as model;
@@ -118,6 +119,8 @@ impl RunList {
             (λ entry. KeepsTrue table.now (T.characters text.now)
             (λ run. IsShownAfter run i entry) self.old self.new) }
         ensures others { drop 1 self.new ≡ drop 1 self.old }
+        ensures unknown { MatchOption result ⊤ (λ _. AllByRecursion
+            (λ run. (a : ℕ) → ¬ model.ShowsAfter run i a) (take 1 self.old)) }
         ensures more { steps.old ≤ steps.new }
         ensures cost { steps.new ≤ steps.old + searches_cost table.now (T.characters text.now)
             (anchor_below table.now (T.characters text.now) i) i }

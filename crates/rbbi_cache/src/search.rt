@@ -1,5 +1,5 @@
 //! What is past a place: found by searches from an anchor, or from the last entry of a kept run.
-ghost use Rattle.std.specs.Prelude.{◌≡◌, ℕ, ◌+◌, ◌<◌, ◌≤◌, true, length, List, MatchOption};
+ghost use Rattle.std.specs.Prelude.{◌≡◌, ℕ, ◌+◌, ◌<◌, ◌≤◌, true, length, List, MatchOption, ⊤};
 ghost use Rattle.rbbi_model.specs.Words.{most_characters};
 ghost use Rattle.rbbi_model.specs.Runs as model;
 ghost use Rattle.rbbi_model.specs.Costs.{anchor_below, searches_cost};
@@ -63,6 +63,7 @@ pub(crate) fn step<T: Chars, L: Ledger>(
     requires is_true { model.IsTrueRun table.now (T.characters text.now) run.old }
     ensures gone_on { MatchOption result ((run.new ≡ run.old) × (steps.new ≡ steps.old)) (λ entry.
         GoesOnAs table.now (T.characters text.now) i run.old entry true run.new run.new) }
+    ensures unknown { MatchOption result ⊤ (λ _. (a : ℕ) → ¬ model.ShowsAfter run.old i a) }
     ensures more { steps.old ≤ steps.new }
     ensures cost { steps.new ≤ steps.old + searches_cost table.now (T.characters text.now)
         (anchor_below table.now (T.characters text.now) i) i }

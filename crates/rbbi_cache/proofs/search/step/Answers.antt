@@ -3,6 +3,8 @@ use Rattle.rbbi_model.specs.Runs.{Run}
 use Rattle.rbbi_cache.specs.inner.Ready.{GoesOnAs}
 use Rattle.std.specs.Prelude.{true}
 use Rattle.rbbi_cache.proofs.Begins.{one_added, one_cost}
+use Rattle.rbbi_cache.proofs.RightPart.{entries_rise}
+use Rattle.rbbi_cache.proofs.Showing.{none_past_last}
 use Rattle.rbbi_cache.proofs.search.step.Goals as goal
 
 pub returns-clause-gone_on : goal.returns-clause-gone_on
@@ -24,3 +26,8 @@ returns-clause-cost g c =
     (omega (arith, ap (λ e. e.at) c.from.view_is)) c.from.inside.reach (ap (λ e. e.reach) c.from.view_is) c.requires.within
     (record { at = c.next-found.result.at; status = c.next-found.result.status; reach = c.max.result }) c.next-found.result.look
     c.next-found.ensures.at c.next-found.ensures.status c.next-found.ensures.look c.max.ensures c.args.steps.now c.next-found.new.steps c.next-found.ensures.read
+
+pub returns-clause-unknown : goal.returns-clause-unknown
+returns-clause-unknown g c =
+    none_past_last c.args.run.now c.args.i c.in-Some.from (entries_rise c.args.table.now c.valid.ensures (g.T.Chars.characters c.args.text.now) c.args.run.now
+    c.requires.is_true) c.in-Some.ensures

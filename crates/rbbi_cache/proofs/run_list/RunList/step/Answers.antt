@@ -2,6 +2,7 @@ use Rattle.std.proofs.Common.{◌≤◌, [], length, drop, sym, refl, ap, ◌∙
 use Rattle.std.specs.List.{AllByRecursion}
 use Rattle.rbbi_model.specs.Runs.{IsTrueRun}
 use Rattle.rbbi_cache.proofs.Keeping.{keeps_stepped}
+use Rattle.rbbi_cache.proofs.Quieting.{unknown_to_first}
 use Rattle.rbbi_cache.proofs.Slots.{first_is, written_is}
 use Rattle.rbbi_cache.proofs.run_list.RunList.step.Goals as goal
 
@@ -26,3 +27,9 @@ returns-clause-others g c =
     let first = first_is c.self.inside.slots.items.items c.self.inside.count c.if-self-eq0.false short c.item_mut-run.result.now c.item_mut-run.ensures.value in
     ap (drop 1) (written_is c.self.inside.slots.items.items c.self.inside.count short c.args.self.now [] c.item_mut-run.result.now first.0 c.self.view_is
     (sym c.self.view_is ∙ first.1) 0 refl c.step.new.run) ∙ sym (ap (drop 1) (sym c.self.view_is ∙ first.1))
+
+pub returns-clause-unknown : goal.returns-clause-unknown
+returns-clause-unknown g c =
+    let short : c.self.inside.count ≤ length c.self.inside.slots.items.items = omega (arith, c.self.invariant.0, c.self.invariant.1) in
+    let first = first_is c.self.inside.slots.items.items c.self.inside.count c.if-self-eq0.false short c.item_mut-run.result.now c.item_mut-run.ensures.value in
+    unknown_to_first c.args.i c.step.result c.item_mut-run.result.now first.0 c.args.self.now (sym c.self.view_is ∙ first.1) c.step.ensures.unknown
