@@ -21,6 +21,7 @@ pub mod Walks
 pub mod Goes
 pub mod Showing
 mod Quieting
+pub mod Floors
 pub mod RunLists
 pub mod Members
 pub mod Nearer

@@ -72,7 +72,7 @@ parted k (b ∷ bs) rising =
     ([], sym (filter_all (λ c. leb k c.at) (b ∷ bs) each)))
     (cases_lt b.at k)
 
-low_is : (p : ℕ) → low p ≤ p + 2
+pub low_is : (p : ℕ) → low p ≤ p + 2
 low_is p =
     ⊎_elim
     (λ zero. omega (arith, cond-true (eqb p 0) 1 (p + 2) (eq-eqb p 0 zero)))
@@ -115,7 +115,7 @@ module _ (table : Table) (valid : IsValidTable table) (x : List ℕ) (run : Run)
       here ∙ sym back
 
   -- and two characters on the boundaries
-  same_boundaries : from_place (q + 2) (fresh table x q) ≡ from_place (q + 2) (fresh table x run.anchor)
+  pub same_boundaries : from_place (q + 2) (fresh table x q) ≡ from_place (q + 2) (fresh table x run.anchor)
   same_boundaries =
       let here = (fresh_true table valid x q (inr (room, safe))).1 in
       let there = (fresh_true table valid x run.anchor is_true.anchor).1 in

@@ -9,7 +9,7 @@ ghost use Rattle.rbbi_cache.specs.Kept.{KeepsBack};
 ghost use Rattle.rbbi_cache.specs.Shown.{IsShownAfter};
 ghost use Rattle.rbbi_cache.specs.inner.Lists.{IsOrdered, HasAt, GoesOnFrom};
 ghost use Rattle.std.specs.List.{AllByRecursion};
-ghost use Rattle.rbbi_cache.specs.inner.Ready.{KeepsTrue};
+ghost use Rattle.rbbi_cache.specs.inner.Ready.{KeepsTrue, IsFloorFor};
 
 use crate::anchors::anchor_before;
 use crate::run_list::RunList;
@@ -372,6 +372,16 @@ impl Cache {
         entry
     }
 
+    /// A place from which on no anchor finds a boundary before `i`, by what the first run shows.
+    fn floor_before(&self, i: u32) -> u32
+        ensures { IsFloorFor self.now.runs i result }
+    {
+        match self.runs.as_slice().first() {
+            Some(run) => run.floor_before(i),
+            None => i,
+        }
+    }
+
     /// Searches for the last boundary before `i`, and keeps what it finds.
     fn find_back<T: Chars, L: Ledger>(
         &mut self,
@@ -419,8 +429,9 @@ impl Cache {
         ensures cost { steps.new ≤ steps.old + back_cost table.now (T.characters text.now) i }
     {
         table.valid();
+        let floor = self.floor_before(i);
         let spare = &mut self.spare;
-        let Some(entry) = search_back(table, text, i, spare, &mut self.marks, steps) else {
+        let Some(entry) = search_back(table, text, i, floor, spare, &mut self.marks, steps) else {
             return START;
         };
         self.quiet_to = 0;

@@ -6,7 +6,7 @@ ghost use Rattle.rbbi_model.specs.Runs as model;
 ghost use Rattle.rbbi_model.specs.Runs.{IsAnchor};
 ghost use Rattle.rbbi_model.specs.Costs.{settles, searches_cost, back_cost};
 ghost use Rattle.rbbi_cache.specs.Kept.{IsLastBefore};
-ghost use Rattle.rbbi_cache.specs.inner.Ready.{HasNoneBefore, IsReadyBefore};
+ghost use Rattle.rbbi_cache.specs.inner.Ready.{HasNoneBefore, IsFloor, IsReadyBefore};
 
 use crate::anchors::anchor_before;
 use crate::scan::scan;
@@ -17,10 +17,12 @@ use std::sync::ledger::Ledger;
 
 /// Searches for the last boundary before `i`, or None if it is the start. The first try begins at
 /// the greatest anchor three characters back or more, each further one at least twice as far back.
+/// The floor is a place from which on no anchor but 0 finds anything; these tries are left out.
 pub(crate) fn search_back<T: Chars, L: Ledger>(
     table: &Table,
     text: &T,
     i: u32,
+    floor: u32,
     run: &mut Run,
     marks: &mut FrontPlaces,
     steps: &mut Steps<L>,
@@ -29,6 +31,7 @@ pub(crate) fn search_back<T: Chars, L: Ledger>(
     requires some { 0 < i }
     requires within { i ≤ length (T.characters text.now) }
     requires small { i ≤ most_characters }
+    requires floor { IsFloor table.now (T.characters text.now) floor i }
     ensures found { MatchOption result
         (IsLastBefore table.now (T.characters text.now) i
         (record { at = 0; status = 0; reach = 0 }))
@@ -41,7 +44,7 @@ pub(crate) fn search_back<T: Chars, L: Ledger>(
     table.valid();
     let mut anchor = anchor_before(table, text, 0, i.saturating_sub(2), steps);
     'tries: loop {
-        if let Some(entry) = search_from(table, text, anchor, i, run, marks, steps) {
+        if let Some(entry) = search_from(table, text, anchor, i, floor, run, marks, steps) {
             return Some(entry);
         }
         if anchor == 0 {
@@ -51,12 +54,14 @@ pub(crate) fn search_back<T: Chars, L: Ledger>(
     }
 }
 
-/// Searches from an anchor for the last boundary before `i` two characters past it or more.
+/// Searches from an anchor for the last boundary before `i` two characters past it or more. From an
+/// anchor at or past the floor, except 0, it finds none without a search.
 fn search_from<T: Chars, L: Ledger>(
     table: &Table,
     text: &T,
     anchor: u32,
     i: u32,
+    floor: u32,
     run: &mut Run,
     marks: &mut FrontPlaces,
     steps: &mut Steps<L>,
@@ -67,6 +72,7 @@ fn search_from<T: Chars, L: Ledger>(
     requires some { 0 < i }
     requires within { i ≤ length (T.characters text.now) }
     requires small { i ≤ most_characters }
+    requires floor { IsFloor table.now (T.characters text.now) floor i }
     ensures found { MatchOption result
         (HasNoneBefore table.now (T.characters text.now) anchor i)
         (λ entry. (settles table.now (T.characters text.now) i anchor ≡ true)
@@ -78,6 +84,9 @@ fn search_from<T: Chars, L: Ledger>(
     ensures fit { marks.new ≡ marks.old }
 {
     table.valid();
+    if anchor > 0 && anchor >= floor {
+        return None;
+    }
     run.begin(anchor);
     let from = Entry {
         at: anchor,

@@ -8,6 +8,7 @@ ghost use Rattle.rbbi_model.specs.Runs.{low, ShowsAfter, ShowsBefore};
 ghost use Rattle.rbbi_cache.specs.inner.Lists.{GoesOnFrom};
 ghost use Rattle.rbbi_cache.specs.inner.Shown.{AreUpTo};
 ghost use Rattle.rbbi_cache.specs.inner.Quiet.{IsQuiet};
+ghost use Rattle.rbbi_cache.specs.inner.Ready.{IsFloorOf};
 ghost use Rattle.rbbi_cache.specs.Shown.{IsShownAfter, IsShownBefore};
 
 use crate::scan::low;
@@ -160,6 +161,22 @@ impl Run {
             return 0;
         }
         to
+    }
+
+    /// A place from which on no anchor finds a boundary before `i`: the run's anchor, if it leads
+    /// and its first entry lies at `i`, and otherwise `i`.
+    pub(crate) fn floor_before(&self, i: u32) -> u32
+        ensures { IsFloorOf self.now i result }
+    {
+        let entries = self.entries();
+        if !self.leads() || entries.is_empty() {
+            return i;
+        }
+        let first = entries[0];
+        if first.at != i {
+            return i;
+        }
+        self.anchor()
     }
 
     /// Its last entry, where that isn't past `i`.

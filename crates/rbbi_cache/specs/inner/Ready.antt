@@ -1,9 +1,10 @@
 -- Runs that are ready to be kept first.
-use Rattle.std.specs.Prelude.{◌≡◌, ℕ, ◌≤◌, Bool, true, false, List, ◌∷◌, ◌++◌}
+use Rattle.std.specs.Prelude.{◌≡◌, ℕ, ◌<◌, ◌≤◌, ◌⊎◌, Bool, true, false, IsTrue, List, ◌∷◌, ◌++◌}
 use Rattle.rbbi_model.specs.Tables.{Table}
+use Rattle.rbbi_model.specs.ValidTables.{IsValidTable}
 use Rattle.std.specs.List.{AllByRecursion}
 use Rattle.rbbi_model.specs.Searches.{fresh}
-use Rattle.rbbi_model.specs.Runs.{Entry, Run, low, IsTrueRun}
+use Rattle.rbbi_model.specs.Runs.{Entry, Run, low, IsAnchor, IsTrueRun}
 use Rattle.rbbi_cache.specs.Kept.{HasLeastReaches, IsExtendedBy, Keeps, AreTrueRuns}
 use Rattle.rbbi_cache.specs.Shown.{IsShownAfter, IsShownBefore}
 
@@ -46,3 +47,23 @@ pub record GoesOnAt (table : Table) (x : List ℕ) (i : ℕ) (before : List Run)
 -- From the anchor nothing is found between its low place and i.
 abbrev pub HasNoneBefore : Table → List ℕ → ℕ → ℕ → Type 0
 HasNoneBefore table x p i = AllByRecursion (λ member. low p ≤ member.at → i ≤ member.at) (fresh table x p)
+
+-- No anchor from the floor on, except 0, finds anything between its low place and i.
+abbrev pub IsFloor : Table → List ℕ → ℕ → ℕ → Type 0
+IsFloor table x floor i = (q : ℕ) → IsAnchor table x q → floor ≤ q → 0 < q → HasNoneBefore table x q i
+
+-- in each text of which the runs are true, the place is a floor
+abbrev pub IsFloorFor : List Run → ℕ → ℕ → Type 0
+IsFloorFor runs i floor = (table : Table) → IsValidTable table → (x : List ℕ) → AreTrueRuns table x runs → IsFloor table x floor i
+
+-- the run leads, and its first entry lies at i
+pub record LeadsTo (run : Run) (i : ℕ) : Type 0 where
+  pub leads : IsTrue run.leads
+  pub first : Entry
+  pub rest : List Entry
+  pub whole : run.entries ≡ first ∷ rest
+  pub at : first.at ≡ i
+
+-- the place is i, or the anchor of a run that leads to i
+abbrev pub IsFloorOf : Run → ℕ → ℕ → Type 0
+IsFloorOf run i floor = (floor ≡ i) ⊎ ((floor ≡ run.anchor) × LeadsTo run i)
