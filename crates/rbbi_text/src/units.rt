@@ -75,6 +75,17 @@ pub trait UnitText: EditText {
     /// The place at an offset, or the last place before it.
     fn index(&self, unit: Unit, o: u32) -> Index
         ensures { IsIndex unit (Self.characters self.now) o result };
+
+    /// The place at an offset, or the last place before it, by a place before it and where that
+    /// lies: few characters between them are counted.
+    fn index_from(&self, unit: Unit, from: u32, offset: u32, o: u32) -> Index
+        requires from { from ≤ length (Self.characters self.now) }
+        requires offset { offset ≡ offset_of unit (Self.characters self.now) from }
+        ensures { IsIndex unit (Self.characters self.now) o result }
+    {
+        let _known = (from, offset);
+        self.index(unit, o)
+    }
 }
 
 /// A text in one flat list, which is gone through from its start to its end.
