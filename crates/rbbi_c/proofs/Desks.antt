@@ -2,6 +2,8 @@
 use Rattle.std.proofs.Common.{◌≡◌, ℕ, List, sym, ap, ◌∙◌, subst, Option, Result, Ok, Err}
 use Rattle.rbbi_model.specs.declared.unit.Unit.{Unit as TextUnit}
 use Rattle.rbbi_model.specs.Tables.{Table}
+use Rattle.rbbi_session.specs.declared.known.Known.{Known}
+use Rattle.rbbi_session.specs.KnownPlaces.{IsKnown}
 use Rattle.rbbi_session.specs.UnitSessions.{UnitSession, state_of}
 use Rattle.rbbi_session.specs.Walks.{Edits, reported}
 use Rattle.rbbi_session.specs.UnitWalks.{UnitSetting, unit_view}
@@ -13,7 +15,7 @@ use Rattle.rbbi_session.specs.Pausing.{Paused, IsPaused, IsPausedBy, resumed}
 use Rattle.rbbi_model.specs.Units.{offset_of}
 use Rattle.rbbi_c.specs.Holding.{StaysThere}
 use Rattle.rbbi_c.specs.inner.Bounds.{HasSameState}
-use Rattle.rbbi_c.specs.inner.Desks.{IsAtOffset, resumed_from}
+use Rattle.rbbi_c.specs.inner.Desks.{IsAtOffset, IsNear, resumed_from}
 
 pub resumed-session : (unit : TextUnit) (table : Table) (paused : Paused) (session : UnitSession) → session.unit ≡ unit → session.asked.table ≡ table →
     IsPaused session.asked paused
@@ -46,11 +48,13 @@ module _ (unit : TextUnit) {table : Table} {was new : UnitSession} (paused : Opt
   desk-to-desk P {self = self} view holds =
       subst (P self) (sym (resumed-session unit table left new of_unit of_table kept)) (subst (λ s. P s new) (goes ∙ view) holds)
 
-  -- it keeps to the desk's table, and its cursor lies where the session's did
-  pub desk_keeps : (offset : ℕ) → offset ≡ (state_of new).cursor → IsPausedBy table left × (offset ≡ offset_of unit left.state.text left.state.cursor)
-  desk_keeps offset at = (
+  -- it keeps to the desk's table, its cursor lies where the session's did, and the place that the session remembers is known
+  pub desk_keeps : (offset : ℕ) (near : Known) → offset ≡ (state_of new).cursor → IsKnown new.unit new.asked.state.text near →
+      IsPausedBy table left × (offset ≡ offset_of unit left.state.text left.state.cursor) × IsKnown unit left.state.text near
+  desk_keeps offset near at known = (
     subst (λ (t : Table). IsPausedBy t left) of_table kept.by_table,
     at ∙ ap (λ u. offset_of u new.asked.state.text new.asked.state.cursor) of_unit ∙ ap (λ s. offset_of unit s.text s.cursor) (sym kept.state_is),
+    subst (λ x. IsKnown unit x near) (ap (λ s. s.text) (sym kept.state_is)) (subst (λ u. IsKnown u new.asked.state.text near) of_unit known),
   )
 
 -- a session by characters that went on, was read and paused again
@@ -59,11 +63,13 @@ module _ (self : UnitSession) (unit : TextUnit) {table : Table} (paused : Option
   same_state : left.state ≡ (resumed_from table paused).state
   same_state = kept.state_is ∙ state.state_is ∙ ap (λ (s : Session). s.state) goes
 
-  -- it keeps to the desk's table, and its cursor lies where it did
-  pub read_keeps : (offset : ℕ) → IsAtOffset unit offset paused → IsPausedBy table left × (offset ≡ offset_of unit left.state.text left.state.cursor)
-  read_keeps offset at = (
+  -- it keeps to the desk's table, its cursor lies where it did, and a place that was known still is
+  pub read_keeps : (offset : ℕ) (near : Known) → IsAtOffset unit offset paused → IsNear unit near paused →
+      IsPausedBy table left × (offset ≡ offset_of unit left.state.text left.state.cursor) × IsKnown unit left.state.text near
+  read_keeps offset near at known = (
     subst (λ (t : Table). IsPausedBy t left) (state.table_is ∙ ap (λ (s : Session). s.table) goes) kept.by_table,
     at ∙ ap (λ s. offset_of unit s.text s.cursor) (sym same_state),
+    subst (λ x. IsKnown unit x near) (ap (λ s. s.text) (sym same_state)) known,
   )
 
   -- the desk stays there

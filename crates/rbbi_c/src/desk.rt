@@ -7,13 +7,13 @@ ghost use Rattle.rbbi_session.specs.UnitWalks.{unit_view};
 ghost use Rattle.rbbi_c.specs.Reading.{AreListed};
 ghost use Rattle.rbbi_c.specs.Changing.{IsToldChange};
 ghost use Rattle.rbbi_c.specs.inner.Removing.{IsEditOf};
-ghost use Rattle.rbbi_c.specs.inner.Desks.{IsKept, IsAtOffset, resumed_from};
+ghost use Rattle.rbbi_c.specs.inner.Desks.{IsKept, IsAtOffset, IsNear, resumed_from};
 
 use crate::asking::{Ask, Told, answered};
 use crate::changing::{Changed, replace_telling};
 use crate::copying::copy_front;
 use crate::shared::SharedTable;
-use rbbi_session::{Paused, Session, UnitEditErr, UnitSession, Walk};
+use rbbi_session::{Known, Paused, Session, UnitEditErr, UnitSession, Walk};
 use rbbi_table::FrontPlaces;
 use rbbi_text::{Pieces, Steps, Unit};
 use std::alloc::{AllocError, Global};
@@ -28,6 +28,8 @@ pub struct Desk {
     pub(crate) unit: Unit,
     /// Where the cursor lies in the unit.
     pub(crate) offset: u32,
+    /// A place that the session remembers, which the latest numbers were near to.
+    pub(crate) near: Known,
     /// The session without its table. A call takes it, and puts it back.
     pub(crate) paused: Option<Paused<Pieces>>,
     /// Space for searches in the table.
@@ -37,7 +39,7 @@ pub struct Desk {
 impl Model for Desk {
     ghost use Rattle.rbbi_session.specs.UnitSessions.{UnitSession};
     ghost use Rattle.std.specs.Prelude.{◌≡◌};
-    ghost use Rattle.rbbi_c.specs.inner.Desks.{IsKept, IsAtOffset, resumed_from};
+    ghost use Rattle.rbbi_c.specs.inner.Desks.{IsKept, IsAtOffset, IsNear, resumed_from};
 
     ghost Value = { UnitSession };
 
@@ -47,7 +49,8 @@ impl Model for Desk {
     } };
 
     ghost invariant = { λ desk. IsKept desk.table desk.paused
-        × IsAtOffset desk.unit desk.offset desk.paused × (desk.marks ≡ desk.table.slashes) };
+        × IsAtOffset desk.unit desk.offset desk.paused
+        × IsNear desk.unit desk.near desk.paused × (desk.marks ≡ desk.table.slashes) };
 }
 
 /// Goes on with a session by characters.
@@ -64,19 +67,21 @@ pub(crate) fn resume<'a>(
     }
 }
 
-/// Goes on with a session by a unit, in which its cursor lies here.
+/// Goes on with a session by a unit, in which its cursor lies here, from a place that is known.
 pub(crate) fn resume_in<'a>(
     table: &'a SharedTable,
     unit: Unit,
     offset: u32,
+    near: Known,
     paused: &mut Option<Paused<Pieces>>,
 ) -> UnitSession<'a, Pieces>
     requires kept { IsKept table.now paused.old }
     requires offset { IsAtOffset unit offset paused.old }
+    requires near { IsNear unit near paused.old }
     ensures { result ≡ record { unit = unit; asked = resumed_from table.now paused.old } }
 {
     match paused.take() {
-        Some(paused) => UnitSession::resume(table.table(), paused, unit, offset),
+        Some(paused) => UnitSession::resume(table.table(), paused, unit, offset, near),
         None => unreachable!(),
     }
 }
@@ -94,11 +99,13 @@ impl Desk {
         let marks = FrontPlaces::new(alloc, table.table())?;
         let session = UnitSession::open(alloc, table.table(), text, unit)?;
         let offset = session.current();
+        let near = session.near();
         let paused = Some(session.pause());
         Ok(Desk {
             table,
             unit,
             offset,
+            near,
             paused,
             marks,
         })
@@ -110,9 +117,16 @@ impl Desk {
         ensures asked { IsAsked unit_view self.old (question_of asked) self.new
             steps.old steps.new }
     {
-        let mut session = resume_in(&self.table, self.unit, self.offset, &mut self.paused);
+        let mut session = resume_in(
+            &self.table,
+            self.unit,
+            self.offset,
+            self.near,
+            &mut self.paused,
+        );
         let told = answered(&mut session, asked, steps);
         self.offset = session.current();
+        self.near = session.near();
         self.paused = Some(session.pause());
         told
     }
@@ -128,9 +142,16 @@ impl Desk {
         ensures { Edits unit_view self.old at remove (chars insert.now) result self.new
             steps.old steps.new }
     {
-        let mut session = resume_in(&self.table, self.unit, self.offset, &mut self.paused);
+        let mut session = resume_in(
+            &self.table,
+            self.unit,
+            self.offset,
+            self.near,
+            &mut self.paused,
+        );
         let edited = session.replace(at, remove, insert, steps);
         self.offset = session.current();
+        self.near = session.near();
         self.paused = Some(session.pause());
         edited
     }
@@ -150,7 +171,13 @@ impl Desk {
             IsToldChange self.old self.new at remove (chars insert.now) change.new)
             (λ _. change.new ≡ change.old) }
     {
-        let mut session = resume_in(&self.table, self.unit, self.offset, &mut self.paused);
+        let mut session = resume_in(
+            &self.table,
+            self.unit,
+            self.offset,
+            self.near,
+            &mut self.paused,
+        );
         let edited = replace_telling(
             alloc,
             self.table.table(),
@@ -164,6 +191,7 @@ impl Desk {
             steps,
         );
         self.offset = session.current();
+        self.near = session.near();
         self.paused = Some(session.pause());
         edited
     }
@@ -173,7 +201,13 @@ impl Desk {
         ensures length { result ≡ offset_in self.old (length self.old.asked.state.text) }
         ensures same { self.new ≡ self.old }
     {
-        let session = resume_in(&self.table, self.unit, self.offset, &mut self.paused);
+        let session = resume_in(
+            &self.table,
+            self.unit,
+            self.offset,
+            self.near,
+            &mut self.paused,
+        );
         let length = session.units();
         self.paused = Some(session.pause());
         length
@@ -185,7 +219,13 @@ impl Desk {
         ensures listed { AreListed unit_view self.old room.old room.new result }
         ensures same { self.new ≡ self.old }
     {
-        let session = resume_in(&self.table, self.unit, self.offset, &mut self.paused);
+        let session = resume_in(
+            &self.table,
+            self.unit,
+            self.offset,
+            self.near,
+            &mut self.paused,
+        );
         let list = session.status_list();
         copy_front(list, room);
         let count = list.len();

@@ -54,6 +54,7 @@ impl FilterDesk {
             table,
             unit,
             offset,
+            near,
             paused,
             marks,
         } = desk;
@@ -69,6 +70,7 @@ impl FilterDesk {
                 table,
                 unit,
                 offset,
+                near,
                 paused: Some(paused),
                 marks,
             }),

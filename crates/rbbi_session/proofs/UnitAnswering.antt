@@ -19,7 +19,8 @@ use Rattle.rbbi_session.specs.Asking.{Asks}
 use Rattle.rbbi_session.specs.UnitSessions.{UnitSession, offset_in, UnitAsks}
 use Rattle.rbbi_session.specs.Walks.{IsAsked, IsAnswered}
 use Rattle.rbbi_session.specs.UnitWalks.{unit_view}
-use Rattle.rbbi_session.specs.inner.UnitPlaces.{IsPlaceUpTo, IsPlaceFrom, IsKnown}
+use Rattle.rbbi_session.specs.KnownPlaces.{IsKnown}
+use Rattle.rbbi_session.specs.inner.UnitPlaces.{IsPlaceUpTo, IsPlaceFrom}
 use Rattle.rbbi_session.specs.declared.known.Known.{Known}
 use Rattle.rbbi_session.proofs.Answering.{place_within, none_past}
 use Rattle.rbbi_session.proofs.UnitCursors.{place_before_here, unit_answer}

@@ -19,7 +19,8 @@ use Rattle.rbbi_session.specs.Sessions.{boundaries_of, answer_of}
 use Rattle.rbbi_session.specs.UnitSessions.{UnitSession, offset_in, state_of}
 use Rattle.rbbi_session.specs.Walks.{reported}
 use Rattle.rbbi_session.specs.UnitWalks.{unit_view}
-use Rattle.rbbi_session.specs.inner.UnitPlaces.{IsPlaceUpTo, IsPlaceFrom, IsKnown}
+use Rattle.rbbi_session.specs.KnownPlaces.{IsKnown}
+use Rattle.rbbi_session.specs.inner.UnitPlaces.{IsPlaceUpTo, IsPlaceFrom}
 use Rattle.rbbi_session.proofs.Answering.{none_past}
 
 -- what is found of a number
@@ -38,12 +39,6 @@ module _ (unit : TextUnit) (x : List ℕ) (o : ℕ) (index : Index) (is : IsInde
 
   pub before_is : place_before unit x o ≡ index.at
   before_is = greatest (greatest_below (λ i. leb (offset_of unit x i) o) (length x + 1)) refl
-
--- what is found in the text of a session, as it is seen
-pub index_seen : {was old : UnitSession} {x : List ℕ} {o : ℕ} {index : Index} → was ≡ old → x ≡ was.asked.state.text → IsIndex was.unit x o index →
-    IsIndex old.unit old.asked.state.text o index
-index_seen {was = was} {o = o} {index = index} same text is =
-    subst (λ (s : UnitSession). IsIndex s.unit s.asked.state.text o index) same (subst (λ y. IsIndex was.unit y o index) text is)
 
 -- the first place that doesn't lie before the number, where each earlier one does
 pub from_is : (unit : TextUnit) (x : List ℕ) (o p : ℕ) → p ≤ length x + 1 → ((q : ℕ) → q < p → q ≤ length x → offset_of unit x q < o) →

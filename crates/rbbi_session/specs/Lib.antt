@@ -2,6 +2,7 @@ pub mod Sessions
 pub mod Scans
 pub mod Questions
 pub mod Asking
+pub mod KnownPlaces
 pub mod UnitSessions
 pub mod UnitErrors
 pub mod Walks

@@ -1,18 +1,19 @@
 //! Places whose offsets are known, and the offset of the cursor by them.
 ghost use Rattle.std.specs.Prelude.{◌≡◌, None, Some, MatchOption};
 ghost use Rattle.rbbi_model.specs.Units.{offset_of};
-ghost use Rattle.rbbi_session.specs.inner.UnitPlaces.{IsKnown};
+ghost use Rattle.rbbi_session.specs.KnownPlaces.{IsKnown};
 
 use crate::Session;
 use rbbi_text::{Unit, UnitText};
 
-/// A place whose offset is known.
+/// A place of a text whose offset is known. Offsets near it are found from it, and not from the
+/// text's start.
 #[derive(Clone, Copy, Debug)]
-pub(crate) struct Known {
+pub struct Known {
     /// The place, in characters from 0.
-    pub(crate) at: u32,
+    pub at: u32,
     /// Where it lies in the unit.
-    pub(crate) offset: u32,
+    pub offset: u32,
 }
 
 impl Known {

@@ -18,6 +18,7 @@ mod unit_walk;
 mod walk;
 
 pub use boundary::Boundary;
+pub use known::Known;
 pub use paused::Paused;
 pub use session::{Session, character_count};
 pub use statuses::greatest;

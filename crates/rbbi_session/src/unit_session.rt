@@ -4,8 +4,10 @@ ghost use Rattle.rbbi_model.specs.Units.{offset_of};
 ghost use Rattle.rbbi_model.specs.UnitAnswers.{place_before};
 ghost use Rattle.rbbi_session.specs.Sessions.{HasTrueRuns};
 ghost use Rattle.rbbi_session.specs.UnitSessions.{offset_in, IsOpenedBy};
+ghost use Rattle.rbbi_text.specs.Indexes.{IsIndex};
+ghost use Rattle.rbbi_session.specs.KnownPlaces.{IsKnown};
 ghost use Rattle.rbbi_session.specs.Pausing.{IsPausedBy, IsPaused, resumed};
-ghost use Rattle.rbbi_session.specs.inner.UnitPlaces.{IsPlaceUpTo, IsPlaceFrom, IsKnown};
+ghost use Rattle.rbbi_session.specs.inner.UnitPlaces.{IsPlaceUpTo, IsPlaceFrom};
 
 use crate::known::Known;
 use crate::{Paused, Session};
@@ -13,6 +15,9 @@ use rbbi_table::Table;
 use rbbi_text::{Chars, Index, Unit, UnitText};
 use std::alloc::{AllocError, Global};
 use std::marker::Model;
+
+/// How far past the place that is remembered a number may lie without being remembered itself.
+const FEW: u32 = 32;
 
 /// A session whose places, numbers and lengths count a unit: characters, UTF-8 bytes or UTF-16
 /// units. A number inside of a character is no boundary.
@@ -26,19 +31,23 @@ pub struct UnitSession<'a, T: UnitText> {
     pub(crate) unit: Unit,
     /// Where the cursor lies in the unit.
     pub(crate) offset: u32,
+    /// A place that the latest numbers were near to.
+    pub(crate) near: Known,
 }
 
 impl<'a, T: UnitText> Model for UnitSession<'a, T> {
     ghost use Rattle.std.specs.Prelude.{◌≡◌};
     ghost use Rattle.rbbi_model.specs.Units.{offset_of};
     ghost use Rattle.rbbi_session.specs.UnitSessions.{UnitSession};
+    ghost use Rattle.rbbi_session.specs.KnownPlaces.{IsKnown};
 
     ghost Value = { UnitSession };
 
     ghost view = { λ session. record { unit = session.unit; asked = session.asked } };
 
     ghost invariant = { λ session. let state = session.asked.state in
-        session.offset ≡ offset_of session.unit state.text state.cursor };
+        (session.offset ≡ offset_of session.unit state.text state.cursor)
+        × IsKnown session.unit state.text session.near };
 }
 
 impl<'a, T: UnitText + Drop> UnitSession<'a, T> {
@@ -59,6 +68,7 @@ impl<'a, T: UnitText + Drop> UnitSession<'a, T> {
             asked,
             unit,
             offset: 0,
+            near: Known { at: 0, offset: 0 },
         })
     }
 }
@@ -72,27 +82,58 @@ impl<'a, T: UnitText> UnitSession<'a, T> {
             asked,
             unit: _,
             offset: _,
+            near: _,
         } = self;
         asked.pause()
     }
 
     /// Goes on with the table that a session was paused by, by this unit, in which its cursor lies
-    /// here. It takes no memory.
+    /// here, from a place that is known. It takes no memory.
     pub fn resume(
         table: &'a Table,
         paused: Paused<T>,
         unit: Unit,
         offset: u32,
+        near: Known,
     ) -> UnitSession<'a, T>
         requires table { IsPausedBy table.now paused }
         requires offset { offset ≡ offset_of unit paused.state.text paused.state.cursor }
+        requires near { IsKnown unit paused.state.text near }
         ensures { result ≡ record { unit = unit; asked = resumed table.now paused } }
     {
         UnitSession {
             asked: Session::resume(table, paused),
             unit,
             offset,
+            near,
         }
+    }
+
+    /// The place that the session remembers, which the latest numbers were near to.
+    pub fn near(&self) -> Known
+        ensures { IsKnown self.now.unit self.now.asked.state.text result }
+    {
+        self.near
+    }
+
+    /// The place at a number, or the last one before it. It is remembered if it lies at the number,
+    /// unless the number is a little past the place that is remembered.
+    pub(crate) fn index(&mut self, o: u32) -> Index
+        ensures index { IsIndex self.old.unit self.old.asked.state.text o result }
+        ensures same { self.new ≡ self.old }
+    {
+        let near = self.near;
+        let index = self
+            .asked
+            .text()
+            .index_from(self.unit, near.at, near.offset, o);
+        if index.whole && (o < near.offset || o - near.offset > FEW) {
+            self.near = Known {
+                at: index.at,
+                offset: o,
+            };
+        }
+        index
     }
 
     /// That each kept run is true of the text as it is now. Callers' proofs don't see what a session
@@ -133,18 +174,18 @@ impl<'a, T: UnitText> UnitSession<'a, T> {
 
     /// The last place that doesn't lie past a number, and whether it lies there; a place past the
     /// text's end where the number is.
-    pub(crate) fn last_place_up_to(&self, o: u32) -> Index
+    pub(crate) fn last_place_up_to(&mut self, o: u32) -> Index
         ensures place { result.at
-            ≡ (if nat_lt (offset_in self.now (length self.now.asked.state.text)) o
-            then length self.now.asked.state.text + 1
-            else place_before self.now.unit self.now.asked.state.text o) }
-        ensures past { IsPlaceUpTo self.now.unit self.now.asked.state.text o result.at }
-        ensures known { IsTrue result.whole → IsKnown self.now.unit self.now.asked.state.text
+            ≡ (if nat_lt (offset_in self.old (length self.old.asked.state.text)) o
+            then length self.old.asked.state.text + 1
+            else place_before self.old.unit self.old.asked.state.text o) }
+        ensures past { IsPlaceUpTo self.old.unit self.old.asked.state.text o result.at }
+        ensures known { IsTrue result.whole → IsKnown self.old.unit self.old.asked.state.text
             (record { at = result.at; offset = o }) }
+        ensures same { self.new ≡ self.old }
     {
-        let text = self.asked.text();
-        let len = text.len();
-        let index = text.index(self.unit, o);
+        let len = self.asked.text().len();
+        let index = self.index(o);
         if index.whole {
             return index;
         }
@@ -159,13 +200,13 @@ impl<'a, T: UnitText> UnitSession<'a, T> {
 
     /// The first place that doesn't lie before a number, and whether it lies there; a place past
     /// the text's end where the number is.
-    pub(crate) fn first_place_from(&self, o: u32) -> Index
-        ensures { IsPlaceFrom self.now.unit self.now.asked.state.text o result }
+    pub(crate) fn first_place_from(&mut self, o: u32) -> Index
+        ensures place { IsPlaceFrom self.old.unit self.old.asked.state.text o result }
+        ensures same { self.new ≡ self.old }
     {
-        let text = self.asked.text();
         // That places are small is known of the text's length.
-        let _short = text.len();
-        let index = text.index(self.unit, o);
+        let _short = self.asked.text().len();
+        let index = self.index(o);
         if index.whole {
             return index;
         }

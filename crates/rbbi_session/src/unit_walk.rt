@@ -1,7 +1,7 @@
 //! The questions and edits of a session whose places count a unit.
 ghost use Rattle.rbbi_session.specs.Walks.{Cover, ListsArePaid, Recall};
 
-use crate::known::offset_found;
+use crate::known::{Known, offset_found};
 use crate::{UnitEditErr, UnitSession, Walk};
 use rbbi_text::{EditErr, Steps, UnitText};
 use std::sync::ledger::Ledger;
@@ -100,11 +100,14 @@ impl<T: UnitText> Walk for UnitSession<'_, T> {
         if at > units || remove > units - at {
             return Err(UnitEditErr::Outside);
         }
-        let first = self.asked.text().index(self.unit, at);
+        let first = self.index(at);
         if !first.whole {
             return Err(UnitEditErr::Inside);
         }
-        let end = self.asked.text().index(self.unit, at + remove);
+        let end = self
+            .asked
+            .text()
+            .index_from(self.unit, first.at, at, at + remove);
         if !end.whole {
             return Err(UnitEditErr::Inside);
         }
@@ -114,6 +117,10 @@ impl<T: UnitText> Walk for UnitSession<'_, T> {
         {
             Ok(()) => {
                 self.offset = 0;
+                self.near = Known {
+                    at: first.at,
+                    offset: at,
+                };
                 Ok(())
             }
             Err(EditErr::Outside) => Err(UnitEditErr::Outside),

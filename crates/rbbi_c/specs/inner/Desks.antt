@@ -5,6 +5,8 @@ use Rattle.rbbi_model.specs.Tables.{Table}
 use Rattle.rbbi_model.specs.Runs.{Run}
 use Rattle.rbbi_model.specs.Scripts.{State}
 use Rattle.rbbi_model.specs.Units.{offset_of}
+use Rattle.rbbi_session.specs.declared.known.Known.{Known}
+use Rattle.rbbi_session.specs.KnownPlaces.{IsKnown}
 use Rattle.rbbi_session.specs.Sessions.{Session}
 use Rattle.rbbi_session.specs.Pausing.{Paused, IsPausedBy}
 
@@ -25,6 +27,10 @@ runs_in (Some paused) = paused.runs
 -- the cursor lies at the offset
 abbrev pub IsAtOffset : TextUnit → ℕ → Option Paused → Type 0
 IsAtOffset unit offset paused = offset ≡ offset_of unit (state_in paused).text (state_in paused).cursor
+
+-- the place lies within the text, and at its offset
+abbrev pub IsNear : TextUnit → Known → Option Paused → Type 0
+IsNear unit near paused = IsKnown unit (state_in paused).text near
 
 -- the session that goes on by the table
 abbrev pub resumed_from : Table → Option Paused → Session

@@ -4,7 +4,6 @@ use Rattle.rbbi_model.specs.declared.unit.Unit.{Unit as TextUnit}
 use Rattle.rbbi_model.specs.Units.{offset_of}
 use Rattle.rbbi_model.specs.UnitAnswers.{place_from}
 use Rattle.rbbi_text.specs.declared.units.Index.{Index}
-use Rattle.rbbi_session.specs.declared.known.Known.{Known}
 
 -- the places past this one lie past the number, and the others don't
 pub record IsPlaceUpTo (unit : TextUnit) (x : List ℕ) (o at : ℕ) : Type 0 where
@@ -17,8 +16,3 @@ pub record IsPlaceFrom (unit : TextUnit) (x : List ℕ) (o : ℕ) (index : Index
   pub before : (p : ℕ) → p ≤ length x → p < index.at → offset_of unit x p < o
   pub from : (p : ℕ) → p ≤ length x → index.at ≤ p → o ≤ offset_of unit x p
   pub whole : MatchBool index.whole ((index.at ≤ length x) × (offset_of unit x index.at ≡ o)) ((p : ℕ) → p ≤ length x → offset_of unit x p ≢ o)
-
--- the place lies within the text, and at this offset
-pub record IsKnown (unit : TextUnit) (x : List ℕ) (known : Known) : Type 0 where
-  pub within : known.at ≤ length x
-  pub offset_is : known.offset ≡ offset_of unit x known.at

@@ -8,8 +8,8 @@ use Rattle.rbbi_c.proofs.desk.Desk.ask.Goals as goal
 pub invariant_of-self : goal.invariant_of-self
 invariant_of-self g c =
     let keeps = desk_keeps c.self.inside.unit c.self.inside.paused c.pause.result c.resume_in-session.ensures c.answered-told.ensures.asked.same
-    c.pause.ensures c.current-self-inside.result c.current-self-inside.ensures.at in
-    (keeps.0, keeps.1, c.self.invariant.2)
+    c.pause.ensures c.current-self-inside.result c.near-self-inside.result c.current-self-inside.ensures.at c.near-self-inside.ensures in
+    (keeps.0, keeps.1, keeps.2, c.self.invariant.3)
 
 pub returns-clause-told : goal.returns-clause-told
 returns-clause-told g c =

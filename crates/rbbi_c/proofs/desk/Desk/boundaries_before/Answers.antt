@@ -7,8 +7,8 @@ use Rattle.rbbi_c.proofs.desk.Desk.boundaries_before.Goals as goal
 pub invariant_of-self : goal.invariant_of-self
 invariant_of-self g c =
     let keeps = read_keeps c.args.self.now c.self.inside.unit c.self.inside.paused c.pause.result c.resume-session.ensures c.list_before-listing.ensures.state c.pause.ensures
-    c.self.inside.offset c.self.invariant.1 in
-    (keeps.0, keeps.1, c.self.invariant.2)
+    c.self.inside.offset c.self.inside.near c.self.invariant.1 c.self.invariant.2 in
+    (keeps.0, keeps.1, keeps.2, c.self.invariant.3)
 
 pub returns-clause-listed : goal.returns-clause-listed
 returns-clause-listed g c =

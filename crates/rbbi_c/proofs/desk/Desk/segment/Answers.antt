@@ -9,8 +9,8 @@ use Rattle.rbbi_c.proofs.desk.Desk.segment.Goals as goal
 pub invariant_of-self : goal.invariant_of-self
 invariant_of-self g c =
     let keeps = read_keeps c.args.self.now c.self.inside.unit c.self.inside.paused c.pause.result c.resume-session.ensures c.segment_at-segment.ensures.state c.pause.ensures
-    c.self.inside.offset c.self.invariant.1 in
-    (keeps.0, keeps.1, c.self.invariant.2)
+    c.self.inside.offset c.self.inside.near c.self.invariant.1 c.self.invariant.2 in
+    (keeps.0, keeps.1, keeps.2, c.self.invariant.3)
 
 pub returns-clause-found : goal.returns-clause-found
 returns-clause-found g c =

@@ -1,6 +1,6 @@
 use Rattle.std.proofs.Common.{◌≤◌, length, sym, ap, ◌∙◌, subst, arith}
 use Rattle.rbbi_model.specs.Units.{offset_of}
-use Rattle.rbbi_session.specs.inner.UnitPlaces.{IsKnown}
+use Rattle.rbbi_session.specs.KnownPlaces.{IsKnown}
 use Rattle.rbbi_session.proofs.UnitAnswering.{here_at, here_within}
 use Rattle.rbbi_session.proofs.unit_session.UnitSession.here.Goals as goal
 
@@ -15,5 +15,5 @@ returns-clause-known g c =
     let at = here_at s.asked c.current.result c.current.ensures.answer in
     subst (λ v. IsKnown v.unit v.asked.state.text (record { at = c.current.result; offset = s.offset })) c.self.view_is (record {
       within = omega (arith, at, here_within s.asked c.current.result c.current.ensures.answer c.current.ensures.boundary);
-      offset_is = c.self.invariant ∙ ap (λ p. offset_of s.unit s.asked.state.text p) (sym at);
+      offset_is = c.self.invariant.0 ∙ ap (λ p. offset_of s.unit s.asked.state.text p) (sym at);
     })

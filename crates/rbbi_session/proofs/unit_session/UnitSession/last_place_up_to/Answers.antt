@@ -7,7 +7,7 @@ use Rattle.rbbi_model.specs.UnitAnswers.{place_before}
 use Rattle.rbbi_text.specs.declared.units.Index.{Index}
 use Rattle.rbbi_text.specs.Indexes.{IsIndex}
 use Rattle.rbbi_session.specs.inner.UnitPlaces.{IsPlaceUpTo}
-use Rattle.rbbi_session.proofs.UnitCursors.{up_to_past, up_to_index, up_to_end, past_end, before_is, named_is, index_seen}
+use Rattle.rbbi_session.proofs.UnitCursors.{up_to_past, up_to_index, up_to_end, past_end, before_is, named_is}
 use Rattle.rbbi_session.proofs.unit_session.UnitSession.last_place_up_to.Goals as goal
 
 -- the place that is asked for, where the number doesn't lie past the text's end, and where it does
@@ -26,49 +26,49 @@ past_is unit x o past =
 pub returns-then-index-clause-place : goal.returns-then-index-clause-place
 returns-then-index-clause-place g c =
     let s = c.args.self.now in
-    within_is s.unit s.asked.state.text c.args.o c.index-index.result (index_seen c.self.view_is c.text-text.ensures c.index-index.ensures) (inl c.if-index.true)
+    within_is s.unit s.asked.state.text c.args.o c.index-index.result c.index-index.ensures.index (inl c.if-index.true)
 
 pub returns-then-index-clause-past : goal.returns-then-index-clause-past
 returns-then-index-clause-past g c =
     let s = c.args.self.now in
-    up_to_index s.unit s.asked.state.text c.args.o c.index-index.result (index_seen c.self.view_is c.text-text.ensures c.index-index.ensures)
+    up_to_index s.unit s.asked.state.text c.args.o c.index-index.result c.index-index.ensures.index
 
 pub returns-then-index-clause-known : goal.returns-then-index-clause-known
 returns-then-index-clause-known g c =
     let s = c.args.self.now in
-    named_is s.unit s.asked.state.text c.args.o c.index-index.result (index_seen c.self.view_is c.text-text.ensures c.index-index.ensures)
+    named_is s.unit s.asked.state.text c.args.o c.index-index.result c.index-index.ensures.index
 
 pub returns-then-index-len-clause-place : goal.returns-then-index-len-clause-place
 returns-then-index-len-clause-place g c =
     let s = c.args.self.now in
-    let long : c.len-len.result ≡ length s.asked.state.text = c.len-len.ensures.exact ∙ ap length c.text-text.ensures ∙ ap (λ v. length v.asked.state.text) c.self.view_is in
-    within_is s.unit s.asked.state.text c.args.o c.index-index.result (index_seen c.self.view_is c.text-text.ensures c.index-index.ensures)
+    let long : c.len-len.result ≡ length s.asked.state.text = c.len-len.ensures.exact ∙ ap length c.text.ensures ∙ ap (λ v. length v.asked.state.text) c.self.view_is in
+    within_is s.unit s.asked.state.text c.args.o c.index-index.result c.index-index.ensures.index
     (inr (omega (arith, long, c.if-index-len.true)))
 
 pub returns-then-index-len-clause-past : goal.returns-then-index-len-clause-past
 returns-then-index-len-clause-past g c =
     let s = c.args.self.now in
-    up_to_index s.unit s.asked.state.text c.args.o c.index-index.result (index_seen c.self.view_is c.text-text.ensures c.index-index.ensures)
+    up_to_index s.unit s.asked.state.text c.args.o c.index-index.result c.index-index.ensures.index
 
 pub returns-then-index-len-clause-known : goal.returns-then-index-len-clause-known
 returns-then-index-len-clause-known g c =
     let s = c.args.self.now in
-    named_is s.unit s.asked.state.text c.args.o c.index-index.result (index_seen c.self.view_is c.text-text.ensures c.index-index.ensures)
+    named_is s.unit s.asked.state.text c.args.o c.index-index.result c.index-index.ensures.index
 
 pub returns-clause-place : goal.returns-clause-place
 returns-clause-place g c =
     let s = c.args.self.now in
-    let long : c.len-len.result ≡ length s.asked.state.text = c.len-len.ensures.exact ∙ ap length c.text-text.ensures ∙ ap (λ v. length v.asked.state.text) c.self.view_is in
+    let long : c.len-len.result ≡ length s.asked.state.text = c.len-len.ensures.exact ∙ ap length c.text.ensures ∙ ap (λ v. length v.asked.state.text) c.self.view_is in
     ap (λ n. n + 1) long
     ∙ past_is s.unit s.asked.state.text c.args.o
-    (past_end s.unit s.asked.state.text c.args.o c.index-index.result (index_seen c.self.view_is c.text-text.ensures c.index-index.ensures) c.if-index.false
+    (past_end s.unit s.asked.state.text c.args.o c.index-index.result c.index-index.ensures.index c.if-index.false
     (omega (arith, long, c.if-index-len.false)))
 
 pub returns-clause-past : goal.returns-clause-past
 returns-clause-past g c =
     let s = c.args.self.now in
-    let long : c.len-len.result ≡ length s.asked.state.text = c.len-len.ensures.exact ∙ ap length c.text-text.ensures ∙ ap (λ v. length v.asked.state.text) c.self.view_is in
+    let long : c.len-len.result ≡ length s.asked.state.text = c.len-len.ensures.exact ∙ ap length c.text.ensures ∙ ap (λ v. length v.asked.state.text) c.self.view_is in
     subst (λ n. IsPlaceUpTo s.unit s.asked.state.text c.args.o (n + 1)) (sym long)
     (up_to_past s.unit s.asked.state.text c.args.o
-    (past_end s.unit s.asked.state.text c.args.o c.index-index.result (index_seen c.self.view_is c.text-text.ensures c.index-index.ensures) c.if-index.false
+    (past_end s.unit s.asked.state.text c.args.o c.index-index.result c.index-index.ensures.index c.if-index.false
     (omega (arith, long, c.if-index-len.false))))

@@ -15,5 +15,5 @@ returns-clause-boundary g c =
     let at = here_at s c.current-here.result c.current-here.ensures.answer in
     subst (λ v. IsPlaceOf (reported unit_view v) c.self.inside.offset) c.self.view_is
     (subst (IsPlaceOf (reported unit_view (record { unit = u; asked = s })))
-    (ap (λ p. offset_of u s.state.text p) at ∙ sym c.self.invariant)
+    (ap (λ p. offset_of u s.state.text p) at ∙ sym c.self.invariant.0)
     (is_measured u s.state.text (boundaries_of s) c.current-here.result c.current-here.ensures.boundary))
