@@ -1,4 +1,4 @@
--- Runs that an edit leaves as they are.
+-- Runs that an edit leaves as they are, and runs that have no left part.
 use Rattle.std.proofs.Common.{◌≡◌, ℕ, ◌+◌, ◌<◌, ◌≤◌, ◌||◌, ◌&&◌, false, not, cond, ltb, leb, eqb, List, [], ◌∷◌, ◌++◌, length, length-append, length-take, map, filter}
 use Rattle.std.proofs.Common.{take, drop, get_or, set, sym, refl, ap, ◌∙◌, arith}
 use Rattle.std.specs.Prelude.{Option, Some, None}
@@ -37,6 +37,18 @@ module _ (at removed : ℕ) (run : Run) (movable : IsMovable run) (some : 0 < le
         ap has_entries (cond-false (moves_whole at removed inserted pair run) (moved_run at removed inserted run) (part_behind at removed inserted pair run)
         whole_no) ∙ no_right inserted pair;
   }
+
+-- entries that lie past an anchor other than 0 reach past each place up to it
+past_anchor : (anchor at : ℕ) (entries : List Entry) → at ≤ anchor → 0 < anchor → AllByRecursion (IsPlaced anchor) entries →
+    AllByRecursion (λ e. leb e.reach at ≡ false) entries
+past_anchor anchor at [] up some lie = tt
+past_anchor anchor at (e ∷ entries) up some lie =
+    (lt-leb e.reach at (let low = lie.0.0 in let far = lie.0.1 in omega arith), past_anchor anchor at entries up some lie.1)
+
+pub no_left : (at : ℕ) (run : Run) → IsMovable run → at ≤ run.anchor → 0 < run.anchor → has_entries (left_part at run) ≡ false
+no_left at run movable up some =
+    ap (λ (l : List Entry). not (eqb (length l) 0))
+    (filter_none (λ e. leb e.reach at) run.entries (past_anchor run.anchor at run.entries up some movable.lie))
 
 -- one that stays is put behind the others
 pub swapped : (next : List Run) (count : ℕ) (at removed inserted : ℕ) (pair : Option ℕ) (run : Run) → Stays at removed run → count < 16 → length next ≡ 16 →

@@ -8,7 +8,7 @@ ghost use Rattle.rbbi_cache.specs.inner.Parts.{IsMovable, right_part};
 ghost use Rattle.rbbi_cache.specs.Edits.{WereTrue, AreKeptAfterAny};
 
 use crate::anchors::first_pair;
-use crate::parts::{Edit, copy_left, copy_right, stays};
+use crate::parts::{Edit, copy_left, copy_right, has_no_left, stays};
 use crate::run_list::RunList;
 use crate::runs::MOST_RUNS;
 use crate::{Cache, Run};
@@ -28,6 +28,9 @@ fn add_left(run: &Run, edit: Edit, next: &mut [Run], count: usize) -> usize
         ++ filter has_entries (left_part edit.at run.now ∷ [])) }
 {
     if count == MOST_RUNS {
+        return count;
+    }
+    if has_no_left(run, edit) {
         return count;
     }
     let part = &mut next[count];

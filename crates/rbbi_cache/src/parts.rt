@@ -1,10 +1,11 @@
 //! The parts that an edit leaves of a kept run.
 ghost use Rattle.std.specs.Prelude.{◌≡◌, ◌+◌, ◌≤◌, ◌++◌, [], length, map, filter, take, drop};
-ghost use Rattle.std.specs.Prelude.{nat_le, nat_lt, IfSome, IsTrue};
+ghost use Rattle.std.specs.Prelude.{nat_le, nat_lt, false, IfSome, IsTrue};
 ghost use Rattle.std.specs.List.{AllByRecursion};
 ghost use Rattle.rbbi_model.specs.Words.{most_characters};
 ghost use Rattle.rbbi_model.specs.Runs.{ReachesRise};
-ghost use Rattle.rbbi_cache.specs.Edits.{left_part, moved_entry, moved_run, run_behind};
+ghost use Rattle.rbbi_cache.specs.Edits.{left_part, has_entries};
+ghost use Rattle.rbbi_cache.specs.Edits.{moved_entry, moved_run, run_behind};
 ghost use Rattle.rbbi_cache.specs.inner.Parts.{CanMove, IsMovable, moves_whole, right_part};
 ghost use Rattle.rbbi_cache.specs.inner.Parts.{Stays};
 
@@ -84,6 +85,15 @@ pub(crate) fn stays(run: &Run, edit: Edit) -> bool
         return false;
     }
     true
+}
+
+/// Whether the anchor alone tells that a run has no left part: it isn't before the edit, and each
+/// entry lies past it. At an anchor of 0 the first entry may lie there too.
+pub(crate) fn has_no_left(run: &Run, edit: Edit) -> bool
+    requires { IsMovable run.now }
+    ensures { IsTrue result → has_entries (left_part edit.at run.now) ≡ false }
+{
+    run.anchor() > 0 && run.anchor() >= edit.at
 }
 
 /// Copies the left part of a kept run.

@@ -1,5 +1,5 @@
 -- The parts that an edit leaves of a run, as functions of the first safe pair after the edit.
-use Rattle.std.specs.Prelude.{◌≡◌, ℕ, ◌+◌, ◌≤◌, ◌⊎◌, Bool, true, false, not, ◌&&◌, ◌||◌, List, [], ◌∷◌, length, Option, Some, None, if◌then◌else◌, ◌==◌, nat_le}
+use Rattle.std.specs.Prelude.{◌≡◌, ℕ, ◌+◌, ◌<◌, ◌≤◌, ◌⊎◌, Bool, true, false, not, ◌&&◌, ◌||◌, List, [], ◌∷◌, length, Option, Some, None, if◌then◌else◌, ◌==◌, nat_le}
 use Rattle.std.specs.List.{AllByRecursion}
 use Rattle.rbbi_model.specs.Words.{most_characters}
 use Rattle.rbbi_model.specs.Runs.{Entry, Run, ReachesRise}
@@ -12,7 +12,7 @@ CanMove removed entry = (removed ≤ entry.at) × (entry.at ≤ entry.reach) × 
 
 -- the entry lies after its run's anchor, or that is 0, and no farther than it reaches
 abbrev pub IsPlaced : ℕ → Entry → Type 0
-IsPlaced anchor entry = ((anchor ≡ 0) ⊎ (anchor ≤ entry.at)) × (entry.at ≤ entry.reach) × (entry.reach ≤ most_characters + 1)
+IsPlaced anchor entry = ((anchor ≡ 0) ⊎ (anchor < entry.at)) × (entry.at ≤ entry.reach) × (entry.reach ≤ most_characters + 1)
 
 -- what is known of a true run without its text
 pub record IsMovable (run : Run) : Type 0 where
