@@ -205,7 +205,8 @@ impl Cache {
         if i < self.quiet_from || self.quiet_to <= i {
             return None;
         }
-        self.runs.step(table, text, i, &mut self.marks, steps)
+        let near = Near::new(text, i);
+        self.runs.step(table, &near, i, &mut self.marks, steps)
     }
 
     /// As `find_after` for the kept runs. If no other one can show it, only the first is asked.
@@ -261,11 +262,11 @@ impl Cache {
         table.valid();
         // That the text is short is known of its length.
         let _short = text.len();
-        if let Some(entry) = self.runs.step(table, text, i, &mut self.marks, steps) {
+        let near = Near::new(text, i);
+        if let Some(entry) = self.runs.step(table, &near, i, &mut self.marks, steps) {
             self.mark_quiet(entry.at);
             return entry;
         }
-        let near = Near::new(text, i);
         self.find_past_near(table, &near, i, steps)
     }
 

@@ -10,7 +10,7 @@ use crate::run::MOST_ENTRIES;
 use crate::scan::scan;
 use crate::{Entry, Run};
 use rbbi_table::{FrontPlaces, Table};
-use rbbi_text::{Chars, Near, Steps};
+use rbbi_text::{Chars, Steps};
 use std::sync::ledger::Ledger;
 
 /// The most entries of a run and a copy of the one from which others were found.
@@ -79,8 +79,7 @@ pub(crate) fn step<T: Chars, L: Ledger>(
     if from.at < i {
         return None;
     }
-    let near = Near::new(text, i);
-    let found = table.next(&near, i, marks, steps);
+    let found = table.next(text, i, marks, steps);
     let entry = Entry {
         at: found.at,
         status: found.status,

@@ -16,9 +16,7 @@ returns-clause-gone_on g c =
     (λ full. c.if-len-eq-MOST_ENTRIES.false (c.len.ensures.exact ∙ full)) c.in-Some.from c.in-Some.ensures
     (omega (arith, ap (λ e. e.at) c.from.view_is)) c.from.inside.reach (ap (λ e. e.reach) c.from.view_is) c.requires.within
     (record { at = c.next-found.result.at; status = c.next-found.result.status; reach = c.max.result }) c.next-found.result.look
-    (rw c.new-near.ensures at c.next-found.ensures.at) (rw c.new-near.ensures at c.next-found.ensures.status)
-    (rw c.new-near.ensures at c.next-found.ensures.look) c.max.ensures c.args.steps.now c.next-found.new.steps
-    (rw c.new-near.ensures at c.next-found.ensures.read))
+    c.next-found.ensures.at c.next-found.ensures.status c.next-found.ensures.look c.max.ensures c.args.steps.now c.next-found.new.steps c.next-found.ensures.read)
 
 pub returns-clause-cost : goal.returns-clause-cost
 returns-clause-cost g c =
@@ -27,9 +25,7 @@ returns-clause-cost g c =
     (λ full. c.if-len-eq-MOST_ENTRIES.false (c.len.ensures.exact ∙ full)) c.in-Some.from c.in-Some.ensures
     (omega (arith, ap (λ e. e.at) c.from.view_is)) c.from.inside.reach (ap (λ e. e.reach) c.from.view_is) c.requires.within
     (record { at = c.next-found.result.at; status = c.next-found.result.status; reach = c.max.result }) c.next-found.result.look
-    (rw c.new-near.ensures at c.next-found.ensures.at) (rw c.new-near.ensures at c.next-found.ensures.status)
-    (rw c.new-near.ensures at c.next-found.ensures.look) c.max.ensures c.args.steps.now c.next-found.new.steps
-    (rw c.new-near.ensures at c.next-found.ensures.read)
+    c.next-found.ensures.at c.next-found.ensures.status c.next-found.ensures.look c.max.ensures c.args.steps.now c.next-found.new.steps c.next-found.ensures.read
 
 pub returns-clause-unknown : goal.returns-clause-unknown
 returns-clause-unknown g c =

@@ -10,7 +10,7 @@ use Rattle.rbbi_cache.proofs.cache.Cache.find_past.Goals as goal
 pub mark_quiet-requires : goal.mark_quiet-requires
 mark_quiet-requires g c =
     all_ordered c.args.table.now c.valid.ensures (g.T.Chars.characters c.args.text.now) most_characters c.len-short.ensures.most c.step.new.self
-    c.in-Some.ensures.kept.1
+    (rw c.new-near.ensures at c.in-Some.ensures.kept).1
 
 pub find_past_near-requires-clause-are_true : goal.find_past_near-requires-clause-are_true
 find_past_near-requires-clause-are_true g c =
