@@ -28,6 +28,7 @@ pub mod Nearer
 pub mod Slots
 pub mod Among
 pub mod PutFirst
+mod Apart
 pub mod Ready
 pub mod Begins
 pub mod Backward

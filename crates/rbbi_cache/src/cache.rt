@@ -1,19 +1,22 @@
 //! The cache, and the questions that it answers.
-ghost use Rattle.std.specs.Prelude.{◌≡◌, ℕ, ◌+◌, ◌<◌, ◌≤◌, [], length, MatchOption, IfOk, ⊤};
+ghost use Rattle.std.specs.Prelude.{◌≡◌, ℕ, ◌+◌, ◌<◌, ◌≤◌, [], length, map, List};
+ghost use Rattle.std.specs.Prelude.{MatchOption, IfOk, ⊤};
+ghost use Rattle.rbbi_model.specs.Lists.{IsRising};
 ghost use Rattle.rbbi_model.specs.Words.{most_characters};
 ghost use Rattle.rbbi_model.specs.Costs.{anchor_below, searches_cost, forward_cost, back_cost};
 ghost use Rattle.rbbi_model.specs.Costs.{preceding_cost};
 ghost use Rattle.rbbi_model.specs.Runs.{ShowsAfter, ShowsBefore};
 ghost use Rattle.rbbi_cache.specs.Kept.{AreTrueRuns, IsFirstAfter, IsLastBefore, SomeRun, Keeps};
 ghost use Rattle.rbbi_cache.specs.Kept.{KeepsBack};
-ghost use Rattle.rbbi_cache.specs.Shown.{IsShownAfter};
+ghost use Rattle.rbbi_cache.specs.Shown.{IsShownAfter, IsShownBefore};
 ghost use Rattle.rbbi_cache.specs.inner.Lists.{IsOrdered, HasAt, GoesOnFrom};
 ghost use Rattle.std.specs.List.{AllByRecursion};
+ghost use Rattle.rbbi_cache.specs.inner.Quiet.{IsApart};
 ghost use Rattle.rbbi_cache.specs.inner.Ready.{KeepsTrue, IsFloorFor};
 
 use crate::anchors::anchor_before;
 use crate::run_list::RunList;
-use crate::runs::{Shown, find_after, find_before, find_nearest, quiet_to};
+use crate::runs::{Shown, apart_around, find_after, find_before, find_nearest, quiet_to};
 use crate::search::search;
 use crate::search_back::search_back;
 use crate::{Entry, Run};
@@ -44,19 +47,25 @@ pub struct Cache {
     /// the others needn't be asked.
     pub(crate) quiet_from: u32,
     pub(crate) quiet_to: u32,
+    /// Each run but the first has no entry past the first of these places, or none before the
+    /// second, so that none shows the last boundary before a place past the first and not past
+    /// the second.
+    pub(crate) apart_from: u32,
+    pub(crate) apart_to: u32,
     /// Which entry of the first run was the last answer that was shown.
     pub(crate) hint: usize,
 }
 
 impl Model for Cache {
     ghost use Rattle.rbbi_cache.specs.Kept.{KeptRuns};
-    ghost use Rattle.rbbi_cache.specs.inner.Quiet.{AreQuiet};
+    ghost use Rattle.rbbi_cache.specs.inner.Quiet.{AreQuiet, AreApart};
 
     ghost Value = { KeptRuns };
 
     ghost view = { λ cache. record { runs = cache.runs; slashes = cache.marks } };
 
-    ghost invariant = { λ cache. AreQuiet cache.quiet_from cache.quiet_to cache.runs };
+    ghost invariant = { λ cache. AreQuiet cache.quiet_from cache.quiet_to cache.runs
+        × AreApart cache.apart_from cache.apart_to cache.runs };
 }
 
 impl Cache {
@@ -71,6 +80,8 @@ impl Cache {
             marks: FrontPlaces::new(alloc, table)?,
             quiet_from: 0,
             quiet_to: 0,
+            apart_from: 0,
+            apart_to: 0,
             hint: 0,
         })
     }
@@ -125,6 +136,7 @@ impl Cache {
             self.hint = hint;
             if shown.run > 0 {
                 self.quiet_to = 0;
+                self.apart_to = 0;
                 self.runs.move_to_front(shown.run);
             }
             return Some(shown.entry);
@@ -164,10 +176,13 @@ impl Cache {
         }
         let len = text.len();
         let mut hint = self.hint;
-        if let Some(shown) = find_before(self.runs.as_slice(), &mut hint, len, i) {
+        if let Some(shown) = self.find_shown_before(&mut hint, len, i) {
             self.hint = hint;
-            self.quiet_to = 0;
-            self.runs.move_to_front(shown.run);
+            if shown.run > 0 {
+                self.quiet_to = 0;
+                self.apart_to = 0;
+                self.runs.move_to_front(shown.run);
+            }
             return Some(shown.entry);
         }
         if len == 0 {
@@ -222,6 +237,21 @@ impl Cache {
             return find_after(runs, hint, i);
         }
         find_after(&runs[..1], hint, i)
+    }
+
+    /// As `find_before` for the kept runs. If no other one can show it, only the first is asked.
+    fn find_shown_before(&self, hint: &mut usize, len: u32, i: u32) -> Option<Shown>
+        requires ordered { AllByRecursion (IsOrdered len) self.now.runs }
+        requires some { 0 < i }
+        ensures { (x : List ℕ) → len ≡ length x → MatchOption result
+            (AllByRecursion (λ run. (a : ℕ) → ¬ ShowsBefore x run i a) self.now.runs)
+            (λ shown. HasAt self.now.runs shown.run (λ run. IsShownBefore x run i shown.entry)) }
+    {
+        let runs = self.runs.as_slice();
+        if i > len || i <= self.apart_from || self.apart_to < i || runs.is_empty() {
+            return find_before(runs, hint, len, i);
+        }
+        find_before(&runs[..1], hint, len, i)
     }
 
     /// Notes how far from `i` on no run but the first shows a boundary, unless that is known.
@@ -324,6 +354,7 @@ impl Cache {
         let spare = &mut self.spare;
         let entry = search(table, text, anchor, i, spare, &mut self.marks, steps);
         self.quiet_to = 0;
+        self.apart_to = 0;
         self.runs.add(spare);
         entry
     }
@@ -363,14 +394,28 @@ impl Cache {
             marks,
             steps,
         );
+        self.quiet_to = 0;
+        self.apart_to = 0;
         if !is_kept {
-            self.quiet_to = 0;
             self.runs.add(spare);
             return entry;
         }
-        self.quiet_to = 0;
         self.runs.move_to_front(known.run);
         entry
+    }
+
+    /// As `apart_around` for the kept runs. If `i` lies between two such places of all runs but the
+    /// first, it looks only at that one.
+    fn apart_around(&self, i: u32) -> (u32, u32)
+        requires { AllByRecursion (λ run. IsRising (map (λ entry. entry.at) run.entries))
+            self.now.runs }
+        ensures { AllByRecursion (IsApart result.0 result.1) self.now.runs }
+    {
+        let runs = self.runs.as_slice();
+        if i <= self.apart_from || self.apart_to < i || runs.is_empty() {
+            return apart_around(runs, i);
+        }
+        runs[0].apart_around(i, self.apart_from, self.apart_to)
     }
 
     /// A place from which on no anchor finds a boundary before `i`, by what the first run shows.
@@ -435,8 +480,11 @@ impl Cache {
         let Some(entry) = search_back(table, text, i, floor, spare, &mut self.marks, steps) else {
             return START;
         };
+        let (from, to) = self.apart_around(i);
         self.quiet_to = 0;
-        self.runs.add(spare);
+        self.apart_from = from;
+        self.apart_to = to;
+        self.runs.add(&mut self.spare);
         entry
     }
 }

@@ -171,6 +171,7 @@ impl Cache {
         self.next
             .fill_edited(table, text, edit, &mut self.runs, steps);
         self.quiet_to = 0;
+        self.apart_to = 0;
         mem::swap(&mut self.runs, &mut self.next);
     }
 }

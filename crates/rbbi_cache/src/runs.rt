@@ -1,13 +1,14 @@
 //! Look-ups in the list of kept runs, and changes of its order.
 ghost use Rattle.std.specs.Prelude.{◌≡◌, ◌≢◌, ℕ, ◌+◌, ◌-◌, ◌<◌, ◌≤◌, ◌∷◌, ◌++◌, [], length, take};
-ghost use Rattle.std.specs.Prelude.{drop, min, MatchOption, List, ⊤};
+ghost use Rattle.std.specs.Prelude.{drop, min, map, MatchOption, List, ⊤};
 ghost use Rattle.std.specs.List.{AllByRecursion};
+ghost use Rattle.rbbi_model.specs.Lists.{IsRising};
 ghost use Rattle.rbbi_model.specs.Words.{most_characters};
 ghost use Rattle.rbbi_model.specs.Runs as model;
 ghost use Rattle.rbbi_model.specs.Runs.{ShowsAfter, ShowsBefore};
 ghost use Rattle.rbbi_cache.specs.Shown.{IsShownAfter, IsShownBefore};
 ghost use Rattle.rbbi_cache.specs.inner.Lists.{IsOrdered, HasAt, GoesOnFrom};
-ghost use Rattle.rbbi_cache.specs.inner.Quiet.{IsQuiet};
+ghost use Rattle.rbbi_cache.specs.inner.Quiet.{IsQuiet, IsApart};
 
 use crate::{Entry, Run};
 use std::mem;
@@ -66,6 +67,24 @@ pub(crate) fn quiet_to(runs: &[Run], i: u32) -> u32
         k += 1;
     }
     to
+}
+
+/// Two places between which none of the runs has an entry. If each run lies on one side of `i`,
+/// they lie around `i`: the first before it and the second not.
+pub(crate) fn apart_around(runs: &[Run], i: u32) -> (u32, u32)
+    requires { AllByRecursion (λ run. IsRising (map (λ entry. entry.at) run.entries)) runs.now }
+    ensures { AllByRecursion (IsApart result.0 result.1) runs.now }
+{
+    let mut from = 0;
+    let mut to = u32::MAX;
+    let mut k = 0;
+    while k < runs.len() {
+        let (past, short_of) = runs[k].apart_around(i, from, to);
+        from = past;
+        to = short_of;
+        k += 1;
+    }
+    (from, to)
 }
 
 /// The run with the greatest last entry that isn't past `i`; no caller rests on which it is.

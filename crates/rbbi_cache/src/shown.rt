@@ -7,7 +7,7 @@ ghost use Rattle.rbbi_model.specs.Words.{most_characters};
 ghost use Rattle.rbbi_model.specs.Runs.{low, ShowsAfter, ShowsBefore};
 ghost use Rattle.rbbi_cache.specs.inner.Lists.{GoesOnFrom};
 ghost use Rattle.rbbi_cache.specs.inner.Shown.{AreUpTo};
-ghost use Rattle.rbbi_cache.specs.inner.Quiet.{IsQuiet};
+ghost use Rattle.rbbi_cache.specs.inner.Quiet.{IsQuiet, IsApart};
 ghost use Rattle.rbbi_cache.specs.inner.Ready.{IsFloorOf};
 ghost use Rattle.rbbi_cache.specs.Shown.{IsShownAfter, IsShownBefore};
 
@@ -161,6 +161,29 @@ impl Run {
             return 0;
         }
         to
+    }
+
+    /// Two places, not farther apart than those given, between which the run has no entry. If it
+    /// lies on one side of `i`, they stay around `i`, and otherwise the second is 0.
+    pub(crate) fn apart_around(&self, i: u32, from: u32, to: u32) -> (u32, u32)
+        requires { IsRising (map (λ entry. entry.at) self.now.entries) }
+        ensures apart { IsApart result.0 result.1 self.now }
+        ensures least { from ≤ result.0 }
+        ensures most { result.1 ≤ to }
+    {
+        let entries = self.entries();
+        if entries.is_empty() {
+            return (from, to);
+        }
+        let first = entries[0];
+        if first.at >= i {
+            return (from, to.min(first.at));
+        }
+        let last = entries[entries.len() - 1];
+        if last.at < i {
+            return (from.max(last.at), to);
+        }
+        (from, 0)
     }
 
     /// A place from which on no anchor finds a boundary before `i`: the run's anchor, if it leads

@@ -7,6 +7,7 @@ use Rattle.rbbi_cache.specs.inner.Ready.{KeepsTrue}
 use Rattle.rbbi_cache.proofs.Keeping.{all_ordered, keeps_shown, first_stays}
 use Rattle.rbbi_cache.proofs.Answering.{answer_after, same_after, none_past_end, no_run}
 use Rattle.rbbi_cache.proofs.Quieting.{none_quiet}
+use Rattle.rbbi_cache.proofs.Apart.{all_from_start}
 use Rattle.rbbi_cache.proofs.cache.Cache.after.Given.{Over}
 use Rattle.rbbi_cache.proofs.cache.Cache.after.Goals.{then-shown-gt0, else-shown-gt0}
 use Rattle.rbbi_cache.proofs.cache.Cache.after.Goals as goal
@@ -17,7 +18,7 @@ find_shown-requires-clause-ordered g c =
     (rw c.in_default.ensures.kept.0 c.requires.are_true)
 
 pub invariant_of-self : goal.invariant_of-self
-invariant_of-self g c = none_quiet _ 0 _ refl
+invariant_of-self g c = (none_quiet _ 0 _ refl, all_from_start _ 0 _ refl)
 
 -- the run that shows the answer stands first
 used : (g : Over) (c : goal.Joined-shown-gt0 g)

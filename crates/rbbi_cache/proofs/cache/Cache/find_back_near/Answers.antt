@@ -1,10 +1,28 @@
-use Rattle.std.proofs.Common.{[], inl, sym, subst}
+use Rattle.std.proofs.Common.{[], map, inl, refl, sym, subst}
+use Rattle.rbbi_model.specs.Lists.{IsRising}
+use Rattle.rbbi_model.specs.Runs.{IsTrueRun}
+use Rattle.rbbi_model.proofs.Lists.{all_through}
 use Rattle.rbbi_cache.specs.Kept.{KeptRuns, AreTrueRuns, Keeps}
 use Rattle.rbbi_cache.specs.Shown.{IsShownBefore}
 use Rattle.rbbi_cache.proofs.Keeping.{keeps_added}
 use Rattle.rbbi_cache.proofs.RightPart.{entries_rise}
+use Rattle.rbbi_cache.proofs.Quieting.{none_quiet}
+use Rattle.rbbi_cache.proofs.Apart.{added_apart}
 use Rattle.rbbi_cache.proofs.Answering.{is_last_before}
 use Rattle.rbbi_cache.proofs.cache.Cache.find_back_near.Goals as goal
+
+pub apart_around-from-requires : goal.apart_around-from-requires
+apart_around-from-requires g c =
+    all_through (IsTrueRun c.args.table.now (g.T.Chars.characters c.args.text.now)) (λ r. IsRising (map (λ e. e.at) r.entries))
+    (entries_rise c.args.table.now c.valid.ensures (g.T.Chars.characters c.args.text.now)) c.self.inside.runs
+    (subst (λ (s : KeptRuns). AreTrueRuns c.args.table.now (g.T.Chars.characters c.args.text.now) s.runs) (sym c.self.view_is) c.requires.are_true)
+
+pub invariant_of-self-3 : goal.invariant_of-self-3
+invariant_of-self-3 g c = (
+  none_quiet _ 0 _ refl,
+  added_apart c.apart_around-from.result.0 c.apart_around-from.result.1 c.search_back.new.run c.self.inside.runs c.add.new.self c.apart_around-from.ensures
+      c.add.ensures,
+)
 
 pub add-requires : goal.add-requires
 add-requires g c =

@@ -5,10 +5,11 @@ use Rattle.rbbi_cache.specs.Shown.{IsShownAfter}
 use Rattle.rbbi_cache.proofs.Keeping.{keeps_added}
 use Rattle.rbbi_cache.proofs.RightPart.{entries_rise}
 use Rattle.rbbi_cache.proofs.Quieting.{none_quiet}
+use Rattle.rbbi_cache.proofs.Apart.{all_from_start}
 use Rattle.rbbi_cache.proofs.cache.Cache.find_from.Goals as goal
 
 pub invariant_of-self : goal.invariant_of-self
-invariant_of-self g c = none_quiet _ 0 _ refl
+invariant_of-self g c = (none_quiet _ 0 _ refl, all_from_start _ 0 _ refl)
 
 pub add-requires : goal.add-requires
 add-requires g c =

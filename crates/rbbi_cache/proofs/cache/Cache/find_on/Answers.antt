@@ -2,6 +2,7 @@ use Rattle.std.proofs.Common.{refl, ap, ◌∙◌}
 use Rattle.rbbi_cache.specs.Kept.{KeptRuns}
 use Rattle.rbbi_cache.proofs.Keeping.{keeps_gone_on, keeps_beside, beside_rises}
 use Rattle.rbbi_cache.proofs.Quieting.{none_quiet}
+use Rattle.rbbi_cache.proofs.Apart.{all_from_start}
 use Rattle.rbbi_cache.proofs.cache.Cache.find_on.Goals as goal
 
 pub add-requires : goal.add-requires
@@ -21,7 +22,7 @@ returns-then-not-is_kept-clause-kept g c =
     c.if-not-is_kept.true c.add.new.self c.add.ensures
 
 pub invariant_of-self : goal.invariant_of-self
-invariant_of-self g c = none_quiet _ 0 _ refl
+invariant_of-self g c = (none_quiet _ 0 _ refl, all_from_start _ 0 _ refl)
 
 pub returns-clause-kept : goal.returns-clause-kept
 returns-clause-kept g c =

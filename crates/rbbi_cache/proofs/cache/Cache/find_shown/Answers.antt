@@ -15,5 +15,5 @@ returns c =
     (λ shown. HasAt l shown.run (λ run. IsShownAfter run c.args.i shown.entry)))
     (c.as_slice-runs.ensures.runs ∙ ap (λ (s : KeptRuns). s.runs) c.self.view_is)
     (first_tells c.as_slice-runs.result.now c.self.inside.quiet_from c.self.inside.quiet_to c.args.i
-    (subst (AreQuiet c.self.inside.quiet_from c.self.inside.quiet_to) (sym c.as_slice-runs.ensures.runs) c.self.invariant) (omega arith) (omega arith)
+    (subst (AreQuiet c.self.inside.quiet_from c.self.inside.quiet_to) (sym c.as_slice-runs.ensures.runs) c.self.invariant.0) (omega arith) (omega arith)
     c.find_after-2.result c.find_after-2.ensures)
