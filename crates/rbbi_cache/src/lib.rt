@@ -2,6 +2,7 @@
 #![tactic(auto)]
 
 mod anchors;
+mod back;
 mod cache;
 mod edited;
 mod entry;
