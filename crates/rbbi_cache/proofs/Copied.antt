@@ -21,7 +21,7 @@ to_end : {X : Type 0} (k : ℕ) (xs : List X) → from_number k xs ≡ drop k xs
 to_end k xs = ap (λ n. take n (drop k xs)) (sym (length-drop k xs)) ∙ take-length (drop k xs)
 
 -- a run of this anchor
-abbrev run_of : ℕ → Bool → List Entry → Run
+abbrev pub run_of : ℕ → Bool → List Entry → Run
 run_of anchor leads entries = record { anchor = anchor; entries = entries; leads = leads }
 
 -- a part that begins again and to which a list is added
@@ -51,7 +51,7 @@ module _ (at removed inserted : ℕ) (run : Run) where
       filter (λ e. eqb (run.anchor + inserted - removed) 0 || leb (run.anchor + inserted - removed + 2) e.at)
       (map (moved_entry removed inserted) (filter (λ e. ltb at e.reach) run.entries))
 
-  abbrev of_other : List Entry
+  abbrev pub of_other : List Entry
   of_other = map (moved_entry removed inserted) run.entries
 
   moved_zero : run.anchor ≡ 0 → moved_run at removed inserted run ≡ run_of (run.anchor + inserted - removed) run.leads of_zero
@@ -59,7 +59,7 @@ module _ (at removed inserted : ℕ) (run : Run) where
       let a : ℕ = run.anchor + inserted - removed in
       cond-true (eqb run.anchor 0) (run_of a run.leads of_zero) (run_of a (run.leads && not (eqb a 0)) of_other) (eq-eqb run.anchor 0 zero)
 
-  moved_other : 0 < run.anchor →
+  pub moved_other : 0 < run.anchor →
       moved_run at removed inserted run ≡ run_of (run.anchor + inserted - removed) (run.leads && not (eqb (run.anchor + inserted - removed) 0)) of_other
   moved_other some =
       let a : ℕ = run.anchor + inserted - removed in

@@ -1,5 +1,5 @@
 //! What an edit leaves of the kept runs.
-ghost use Rattle.std.specs.Prelude.{◌≡◌, ◌+◌, ◌≤◌, ◌++◌, ◌∷◌, [], length, take, filter, IfSome};
+ghost use Rattle.std.specs.Prelude.{◌≡◌, ◌+◌, ◌<◌, ◌≤◌, ◌++◌, ◌∷◌, [], length, take, filter, IfSome};
 ghost use Rattle.rbbi_model.specs.Words.{most_characters};
 ghost use Rattle.rbbi_model.specs.Costs.{edit_cost};
 ghost use Rattle.rbbi_cache.specs.Kept.{AreTrueRuns, most_runs};
@@ -8,7 +8,7 @@ ghost use Rattle.rbbi_cache.specs.inner.Parts.{IsMovable, right_part};
 ghost use Rattle.rbbi_cache.specs.Edits.{WereTrue, AreKeptAfterAny};
 
 use crate::anchors::first_pair;
-use crate::parts::{Edit, copy_left, copy_right, has_no_left, stays};
+use crate::parts::{Edit, copy_left, copy_right, has_no_left, stays, stays_behind};
 use crate::run_list::RunList;
 use crate::runs::MOST_RUNS;
 use crate::{Cache, Run};
@@ -59,7 +59,18 @@ fn add_right(run: &Run, edit: Edit, pair: Option<u32>, next: &mut [Run], count: 
     if part.len() == 0 { count } else { count + 1 }
 }
 
-/// Adds the left and the right part of a run. One that stays as it is changes places with a slot.
+/// Adds a run whole. It changes places with a slot.
+fn add_whole(run: &mut Run, next: &mut [Run], count: usize) -> usize
+    requires { count < length next.old }
+    ensures one_more { result ≡ count + 1 }
+    ensures added { take result next.new ≡ take count next.old ++ run.old ∷ [] }
+{
+    let part = &mut next[count];
+    mem::swap(run, part);
+    count + 1
+}
+
+/// Adds the left and the right part of a run. One that stays as it is isn't copied.
 fn add_parts(run: &mut Run, edit: Edit, pair: Option<u32>, next: &mut [Run], count: usize) -> usize
     requires movable { IsMovable run.old }
     requires within { edit.at + edit.removed ≤ most_characters }
@@ -73,9 +84,10 @@ fn add_parts(run: &mut Run, edit: Edit, pair: Option<u32>, next: &mut [Run], cou
         ++ filter has_entries (right_part edit.at edit.removed edit.inserted pair run.old ∷ [])) }
 {
     if count < MOST_RUNS && stays(run, edit) {
-        let part = &mut next[count];
-        mem::swap(run, part);
-        return count + 1;
+        return add_whole(run, next, count);
+    }
+    if count < MOST_RUNS && stays_behind(run, edit) {
+        return add_whole(run, next, count);
     }
     let count = add_left(run, edit, next, count);
     add_right(run, edit, pair, next, count)

@@ -7,7 +7,7 @@ ghost use Rattle.rbbi_model.specs.Runs.{ReachesRise};
 ghost use Rattle.rbbi_cache.specs.Edits.{left_part, has_entries};
 ghost use Rattle.rbbi_cache.specs.Edits.{moved_entry, moved_run, run_behind};
 ghost use Rattle.rbbi_cache.specs.inner.Parts.{CanMove, IsMovable, moves_whole, right_part};
-ghost use Rattle.rbbi_cache.specs.inner.Parts.{Stays};
+ghost use Rattle.rbbi_cache.specs.inner.Parts.{Stays, StaysBehind};
 
 use crate::shown::count_up_to;
 use crate::{Entry, Run};
@@ -82,6 +82,22 @@ pub(crate) fn stays(run: &Run, edit: Edit) -> bool
         return false;
     }
     if count_reaching(entries, edit.at) < entries.len() {
+        return false;
+    }
+    true
+}
+
+/// Whether an edit leaves a run that lies after it as it is: as many characters were inserted as
+/// removed, so nothing moves.
+pub(crate) fn stays_behind(run: &Run, edit: Edit) -> bool
+    requires movable { IsMovable run.now }
+    requires within { edit.at + edit.removed ≤ most_characters }
+    ensures { IsTrue result → StaysBehind edit.at edit.removed edit.inserted run.now }
+{
+    if edit.removed != edit.inserted {
+        return false;
+    }
+    if run.len() == 0 || run.anchor() == 0 || run.anchor() < edit.at + edit.removed {
         return false;
     }
     true

@@ -46,6 +46,12 @@ pub record Stays (at removed : ℕ) (run : Run) : Type 0 where
   pub left : left_part at run ≡ run
   pub right : (inserted : ℕ) (pair : Option ℕ) → has_entries (right_part at removed inserted pair run) ≡ false
 
+-- the edit leaves the run as it is, which lies after it: it has no left part, and its right part is the whole run
+pub record StaysBehind (at removed inserted : ℕ) (run : Run) : Type 0 where
+  pub some : has_entries run ≡ true
+  pub left : has_entries (left_part at run) ≡ false
+  pub right : (pair : Option ℕ) → right_part at removed inserted pair run ≡ run
+
 -- of each run its left and then its right part
 abbrev pub all_parts : ℕ → ℕ → ℕ → Option ℕ → List Run → List Run
 all_parts at removed inserted pair [] = []
