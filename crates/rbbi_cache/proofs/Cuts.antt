@@ -1,10 +1,11 @@
 -- Where the entries of a run are cut into those that a test keeps and the others.
-use Rattle.std.proofs.Common.{◌≡◌, ℕ, zero, suc, ◌<◌, ◌≤◌, Bool, true, false, leb, ltb, List, [], ◌∷◌, ◌++◌, length, filter, get_or, take}
+use Rattle.std.proofs.Common.{◌≡◌, ℕ, zero, suc, ◌+◌, ◌-◌, ◌<◌, ◌≤◌, Bool, true, false, leb, ltb, List, [], ◌∷◌, ◌++◌, length, filter, get_or, take}
 use Rattle.std.proofs.Common.{drop, sym, ap, ◌∙◌, subst, arith}
 use Rattle.std.specs.List.{AllByRecursion}
 use Rattle.std.proofs.lemmas.Bool.{le-leb, lt-leb, lt-ltb, le-ltb}
 use Rattle.std.proofs.lemmas.List.{take-append-drop, append-nil}
 use Rattle.std.proofs.lemmas.List.Elements.{filter-append}
+use Rattle.std.proofs.Math.Seq.{take-length}
 use Rattle.rbbi_model.specs.Runs.{Entry, ReachesRise}
 use Rattle.rbbi_model.proofs.Lists.{all_through}
 use Rattle.rbbi_cache.proofs.Lists.{filter_all, filter_none}
@@ -64,3 +65,20 @@ none_past (e ∷ entries) place = none_past entries place
 pub up_to_all : (entries : List Entry) (place k : ℕ) → k ≡ length entries → AllByRecursion (λ e. e.reach ≤ place) (take k entries) →
     AllByRecursion (λ e. e.reach ≤ place) (take (length entries) entries)
 up_to_all entries place k end each = subst (λ n. AllByRecursion (λ e. e.reach ≤ place) (take n entries)) end each
+
+-- where the last one reaches no farther, none does
+up_to_last : (entries : List Entry) (place k : ℕ) (d : Entry) → ReachesRise entries → k + 1 ≡ length entries → (get_or entries k d).reach ≤ place →
+    AllByRecursion (λ e. e.reach ≤ place) entries
+up_to_last [] place k d rise end up_to = tt
+up_to_last (e ∷ []) place zero d rise end up_to = (up_to, tt)
+up_to_last (e ∷ []) place (suc k) d rise end up_to = absurd (omega arith)
+up_to_last (e ∷ f ∷ entries) place zero d rise end up_to = absurd (omega arith)
+up_to_last (e ∷ f ∷ entries) place (suc k) d rise end up_to =
+    let later = up_to_last (f ∷ entries) place k d rise.1 (omega arith) up_to in
+    (omega (arith, rise.0, later.0), later)
+
+pub all_up_to : (entries : List Entry) (place : ℕ) (entry : Entry) → ReachesRise entries → 0 < length entries →
+    entry ≡ get_or entries (length entries - 1) entry → entry.reach ≤ place → AllByRecursion (λ e. e.reach ≤ place) (take (length entries) entries)
+all_up_to entries place entry rise some is up_to =
+    subst (AllByRecursion (λ e. e.reach ≤ place)) (sym (take-length entries))
+    (up_to_last entries place (length entries - 1) entry rise (omega arith) (omega (arith, up_to, ap (λ e. e.reach) is)))

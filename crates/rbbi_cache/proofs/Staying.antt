@@ -1,6 +1,6 @@
 -- Runs that an edit leaves as they are, and runs that have no left part.
-use Rattle.std.proofs.Common.{◌≡◌, ℕ, ◌+◌, ◌-◌, ◌<◌, ◌≤◌, ◌||◌, ◌&&◌, true, false, not, cond, ltb, leb, eqb, List, [], ◌∷◌, ◌++◌, length, length-append, length-take, map, filter}
-use Rattle.std.proofs.Common.{take, drop, get_or, sym, refl, ap, ◌∙◌, arith}
+use Rattle.std.proofs.Common.{◌≡◌, ℕ, ◌+◌, ◌-◌, ◌<◌, ◌≤◌, ◌||◌, ◌&&◌, true, false, not, cond, ltb, leb, eqb, List, [], ◌∷◌, ◌++◌, length}
+use Rattle.std.proofs.Common.{length-append, length-take, map, filter, take, drop, get_or, sym, refl, ap, ◌∙◌, arith}
 use Rattle.std.specs.Prelude.{Option, Some, None}
 use Rattle.std.specs.List.{AllByRecursion}
 use Rattle.std.proofs.lemmas.Bool.{cond-true, cond-false, le-leb, lt-leb, le-ltb, ne_eqb}
@@ -67,8 +67,8 @@ unmoved removed inserted (e ∷ entries) same =
     ∙ ap (λ l. e ∷ l) (unmoved removed inserted entries same)
 
 module _ (at removed inserted : ℕ) (run : Run) (past : 0 < run.anchor) (behind : at + removed ≤ run.anchor) (same : removed ≡ inserted) where
-  goes_whole : (pair : Option ℕ) → moves_whole at removed inserted pair run ≡ true
-  goes_whole pair =
+  is_whole : (pair : Option ℕ) → moves_whole at removed inserted pair run ≡ true
+  is_whole pair =
       ap (λ b. b && (not (eqb run.anchor 0) || is_found_at pair (at + inserted))) (le-leb (at + removed) run.anchor behind)
       ∙ ap (λ b. not b || is_found_at pair (at + inserted)) (ne_eqb run.anchor 0 (λ none. omega arith))
 
@@ -87,11 +87,11 @@ module _ (at removed inserted : ℕ) (run : Run) (past : 0 < run.anchor) (behind
     some = ap not (ne_eqb (length run.entries) 0 (λ none. omega arith));
     left = no_left at run movable (omega arith) past;
     right = λ pair.
-        cond-true (moves_whole at removed inserted pair run) (moved_run at removed inserted run) (part_behind at removed inserted pair run) (goes_whole pair)
+        cond-true (moves_whole at removed inserted pair run) (moved_run at removed inserted run) (part_behind at removed inserted pair run) (is_whole pair)
         ∙ unmoved_run;
   }
 
--- one that stays is put behind the others
+-- A run that is added whole is what its parts add: it is one of them, and the other has no entry.
 module _ (next added : List Run) (count at removed inserted : ℕ) (pair : Option ℕ) (run : Run) (few : count < 16)
     (added_is : added ≡ take count next ++ run ∷ []) where
   abbrev left_list : List Run

@@ -1,5 +1,6 @@
 //! What an edit leaves of the kept runs.
-ghost use Rattle.std.specs.Prelude.{◌≡◌, ◌+◌, ◌<◌, ◌≤◌, ◌++◌, ◌∷◌, [], length, take, filter, IfSome};
+ghost use Rattle.std.specs.Prelude.{◌≡◌, ◌+◌, ◌<◌, ◌≤◌, ◌++◌, ◌∷◌, [], length, take, filter};
+ghost use Rattle.std.specs.Prelude.{IfSome};
 ghost use Rattle.rbbi_model.specs.Words.{most_characters};
 ghost use Rattle.rbbi_model.specs.Costs.{edit_cost};
 ghost use Rattle.rbbi_cache.specs.Kept.{AreTrueRuns, most_runs};

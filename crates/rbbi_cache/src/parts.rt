@@ -20,7 +20,8 @@ pub(crate) struct Edit {
     pub(crate) inserted: u32,
 }
 
-/// How many of the entries, whose reaches don't fall, reach no farther than the place.
+/// How many of the entries, whose reaches don't fall, reach no farther than the place. That is
+/// all of them where the last one does.
 fn count_reaching(entries: &[Entry], place: u32) -> usize
     requires { ReachesRise entries.now }
     ensures within { result ≤ length entries.now }
@@ -30,6 +31,13 @@ fn count_reaching(entries: &[Entry], place: u32) -> usize
     ensures others { drop result entries.now
         ≡ filter (λ entry. nat_lt place entry.reach) entries.now }
 {
+    let len = entries.len();
+    if len > 0 {
+        let last = &entries[len - 1];
+        if last.reach <= place {
+            return len;
+        }
+    }
     for (k, entry) in entries.iter().enumerate() {
         if entry.reach > place {
             return k;
