@@ -275,6 +275,20 @@ fn lies_at<T: UnitText>(text: &T, unit: Unit, at: u32, offset: u32) -> bool {
         && index_at(text, unit, offset) == Some(Index { at, whole: true })
 }
 
+/// Whether a place is found from another one, each with where it lies, and its offset too.
+fn lies_from<T: UnitText>(text: &T, unit: Unit, from: (u32, u32), to: (u32, u32)) -> bool {
+    let len = text.len();
+    if from.0 > len || to.0 > len || text.offset(unit, from.0) != from.1 {
+        return false;
+    }
+    text.offset_from(unit, from.0, from.1, to.0) == to.1
+        && text.index_from(unit, from.0, from.1, to.1)
+            == (Index {
+                at: to.0,
+                whole: true,
+            })
+}
+
 /// A unit, and the offset of each place in it.
 const OFFSETS: [(Unit, [u32; 7]); 3] = [
     (Unit::Chars, [0, 1, 2, 3, 4, 5, 6]),
@@ -293,11 +307,11 @@ const INSIDE: [(Unit, u32, u32); 7] = [
     (Unit::Utf16, 5, 4),
 ];
 
-/// Whether each place lies where it must.
+/// Whether each place lies where it must, also as it is found from the first one.
 fn are_offsets<T: UnitText>(text: &T, unit: Unit, offsets: &[u32]) -> bool {
     let mut at = 0;
     for offset in offsets {
-        if !lies_at(text, unit, at, *offset) {
+        if !lies_at(text, unit, at, *offset) || !lies_from(text, unit, (0, 0), (at, *offset)) {
             return false;
         }
         at = at.saturating_add(1);
@@ -359,6 +373,21 @@ fn are_thirds<T: UnitText>(text: &T, unit: Unit, before: (u32, u32)) -> bool
     true
 }
 
+/// Whether the ends of such characters are found from those before and after, as many further on.
+fn are_found_on(text: &Pieces, unit: Unit, before: (u32, u32), step: u32) -> bool
+    requires before { (before.0 < 1000) × (before.1 < 1000) }
+    requires step { step < 100 }
+{
+    for k in 0..500 {
+        let here = (before.0 + 3 * k, before.1 + thirds_take(unit, k));
+        let next = (here.0 + 3 * step, before.1 + thirds_take(unit, k + step));
+        if !lies_from(text, unit, here, next) || !lies_from(text, unit, next, here) {
+            return false;
+        }
+    }
+    true
+}
+
 /// Whether places are right in a long text that is ready for a unit, and after edits at its start,
 /// by which one and two characters that take so much stand before the others.
 fn is_right<T: UnitText>(text: &mut T, unit: Unit, one: u32, two: u32) -> bool
@@ -391,5 +420,9 @@ fn places_in_long_texts(rt: HostRuntime) {
         assert!(rt; is_right(&mut plain, unit, one, two));
         let mut pieces = Pieces::new(rt.alloc(), &thirds).expect(&rt, "a text");
         assert!(rt; is_right(&mut pieces, unit, one, two));
+        // Within 64 of the unit, past that, and past the piece.
+        for step in [1, 9, 90] {
+            assert!(rt; are_found_on(&pieces, unit, (2, two), step));
+        }
     }
 }
