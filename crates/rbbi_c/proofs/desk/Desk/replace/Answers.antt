@@ -8,7 +8,8 @@ pub invariant_of-self : goal.invariant_of-self
 invariant_of-self g c =
     let kept = edited-keeps c.resume_in-session.result c.args.at c.args.remove (chars c.args.insert.now) c.replace-edited.result c.replace-edited.new.self
     c.args.steps.now c.replace-edited.new.steps c.replace-edited.ensures in
-    let keeps = desk_keeps c.self.inside.unit c.self.inside.paused c.pause.result c.resume_in-session.ensures kept c.pause.ensures c.current-self-inside.result c.near-self-inside.result
+    let keeps = desk_keeps c.self.inside.unit c.self.inside.paused c.pause.result c.resume_in-session.ensures kept c.pause.ensures
+    c.current-self-inside.result c.near-self-inside.result
     c.current-self-inside.ensures.at c.near-self-inside.ensures in
     (keeps.0, keeps.1, keeps.2, c.self.invariant.3)
 

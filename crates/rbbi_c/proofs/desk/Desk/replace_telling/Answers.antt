@@ -10,7 +10,8 @@ invariant_of-self g c =
     let is = c.replace_telling-edited.ensures.edits in
     let kept = edited-keeps c.resume_in-session.result c.args.at c.args.remove (chars c.args.insert.now) c.replace_telling-edited.result
     c.replace_telling-edited.new.session is.before is.after is.edits in
-    let keeps = desk_keeps c.self.inside.unit c.self.inside.paused c.pause.result c.resume_in-session.ensures kept c.pause.ensures c.current-self-inside.result c.near-self-inside.result
+    let keeps = desk_keeps c.self.inside.unit c.self.inside.paused c.pause.result c.resume_in-session.ensures kept c.pause.ensures
+    c.current-self-inside.result c.near-self-inside.result
     c.current-self-inside.ensures.at c.near-self-inside.ensures in
     (keeps.0, keeps.1, keeps.2, c.replace_telling-edited.ensures.fit ∙ c.self.invariant.3)
 

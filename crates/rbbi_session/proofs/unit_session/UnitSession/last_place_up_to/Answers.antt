@@ -41,7 +41,8 @@ returns-then-index-clause-known g c =
 pub returns-then-index-len-clause-place : goal.returns-then-index-len-clause-place
 returns-then-index-len-clause-place g c =
     let s = c.args.self.now in
-    let long : c.len-len.result ≡ length s.asked.state.text = c.len-len.ensures.exact ∙ ap length c.text.ensures ∙ ap (λ v. length v.asked.state.text) c.self.view_is in
+    let long : c.len-len.result ≡ length s.asked.state.text = c.len-len.ensures.exact ∙ ap length c.text.ensures
+    ∙ ap (λ v. length v.asked.state.text) c.self.view_is in
     within_is s.unit s.asked.state.text c.args.o c.index-index.result c.index-index.ensures.index
     (inr (omega (arith, long, c.if-index-len.true)))
 
@@ -58,7 +59,8 @@ returns-then-index-len-clause-known g c =
 pub returns-clause-place : goal.returns-clause-place
 returns-clause-place g c =
     let s = c.args.self.now in
-    let long : c.len-len.result ≡ length s.asked.state.text = c.len-len.ensures.exact ∙ ap length c.text.ensures ∙ ap (λ v. length v.asked.state.text) c.self.view_is in
+    let long : c.len-len.result ≡ length s.asked.state.text = c.len-len.ensures.exact ∙ ap length c.text.ensures
+    ∙ ap (λ v. length v.asked.state.text) c.self.view_is in
     ap (λ n. n + 1) long
     ∙ past_is s.unit s.asked.state.text c.args.o
     (past_end s.unit s.asked.state.text c.args.o c.index-index.result c.index-index.ensures.index c.if-index.false
@@ -67,7 +69,8 @@ returns-clause-place g c =
 pub returns-clause-past : goal.returns-clause-past
 returns-clause-past g c =
     let s = c.args.self.now in
-    let long : c.len-len.result ≡ length s.asked.state.text = c.len-len.ensures.exact ∙ ap length c.text.ensures ∙ ap (λ v. length v.asked.state.text) c.self.view_is in
+    let long : c.len-len.result ≡ length s.asked.state.text = c.len-len.ensures.exact ∙ ap length c.text.ensures
+    ∙ ap (λ v. length v.asked.state.text) c.self.view_is in
     subst (λ n. IsPlaceUpTo s.unit s.asked.state.text c.args.o (n + 1)) (sym long)
     (up_to_past s.unit s.asked.state.text c.args.o
     (past_end s.unit s.asked.state.text c.args.o c.index-index.result c.index-index.ensures.index c.if-index.false

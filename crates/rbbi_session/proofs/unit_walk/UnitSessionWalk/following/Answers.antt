@@ -9,7 +9,8 @@ pub returns : goal.returns
 returns g c =
     let before : UnitSession = record { unit = c.self.inside.unit; asked = c.self.inside.asked } in
     let after : UnitSession = record { unit = c.self.inside.unit; asked = c.following-place.new.self } in
-    let place = subst (λ s. IsPlaceUpTo s.unit s.asked.state.text c.args.o c.last_place_up_to-from.result.at) (sym (c.self.view_is ∙ c.last_place_up_to-from.ensures.same))
+    let place = subst (λ s. IsPlaceUpTo s.unit s.asked.state.text c.args.o c.last_place_up_to-from.result.at)
+    (sym (c.self.view_is ∙ c.last_place_up_to-from.ensures.same))
     c.last_place_up_to-from.ensures.past in
     let is = subst (λ (s : UnitSession).
     c.last_place_up_to-from.result.at ≡ cond (ltb (offset_in s (length s.asked.state.text)) c.args.o) (length s.asked.state.text + 1)

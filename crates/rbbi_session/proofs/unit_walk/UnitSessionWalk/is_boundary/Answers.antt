@@ -12,7 +12,8 @@ pub returns-then-not-place : goal.returns-then-not-place
 returns-then-not-place g c =
     let before : UnitSession = record { unit = c.self.inside.unit; asked = c.self.inside.asked } in
     let after : UnitSession = record { unit = c.self.inside.unit; asked = c.is_boundary-is.new.self } in
-    let place = subst (λ s. IsPlaceFrom s.unit s.asked.state.text c.args.o c.first_place_from-place.result) (sym (c.self.view_is ∙ c.first_place_from-place.ensures.same))
+    let place = subst (λ s. IsPlaceFrom s.unit s.asked.state.text c.args.o c.first_place_from-place.result)
+    (sym (c.self.view_is ∙ c.first_place_from-place.ensures.same))
     c.first_place_from-place.ensures.place in
     at_view (c.self.view_is ∙ c.first_place_from-place.ensures.same)
     (subst (λ w. IsAnswered unit_view before (IsBoundary c.args.o) (cond w (test_reply c.is_boundary-is.result) No) after c.args.steps.now
@@ -25,7 +26,8 @@ pub returns : goal.returns
 returns g c =
     let before : UnitSession = record { unit = c.self.inside.unit; asked = c.self.inside.asked } in
     let after : UnitSession = record { unit = c.self.inside.unit; asked = c.is_boundary-is.new.self } in
-    let place = subst (λ s. IsPlaceFrom s.unit s.asked.state.text c.args.o c.first_place_from-place.result) (sym (c.self.view_is ∙ c.first_place_from-place.ensures.same))
+    let place = subst (λ s. IsPlaceFrom s.unit s.asked.state.text c.args.o c.first_place_from-place.result)
+    (sym (c.self.view_is ∙ c.first_place_from-place.ensures.same))
     c.first_place_from-place.ensures.place in
     at_view (c.self.view_is ∙ c.first_place_from-place.ensures.same)
     (subst (λ w. IsAnswered unit_view before (IsBoundary c.args.o) (cond w (test_reply c.is_boundary-is.result) No) after c.args.steps.now

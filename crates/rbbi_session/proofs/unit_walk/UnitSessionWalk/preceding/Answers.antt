@@ -8,7 +8,8 @@ pub returns : goal.returns
 returns g c =
     let before : UnitSession = record { unit = c.self.inside.unit; asked = c.self.inside.asked } in
     let after : UnitSession = record { unit = c.self.inside.unit; asked = c.preceding-place.new.self } in
-    let place = subst (λ s. IsPlaceFrom s.unit s.asked.state.text c.args.o c.first_place_from-from.result) (sym (c.self.view_is ∙ c.first_place_from-from.ensures.same))
+    let place = subst (λ s. IsPlaceFrom s.unit s.asked.state.text c.args.o c.first_place_from-from.result)
+    (sym (c.self.view_is ∙ c.first_place_from-from.ensures.same))
     c.first_place_from-from.ensures.place in
     at_view (c.self.view_is ∙ c.first_place_from-from.ensures.same)
     (unit_preceding before after _ _ refl

@@ -60,7 +60,8 @@ returns-in-Ok g c =
     let k_is : c.saturating_sub.result ≡ c.index_from-end.result.at - c.index-first.result.at = omega (arith, c.saturating_sub.ensures) in
     let done : Unit {0} = tt in
     subst (λ s. Edits unit_view s c.args.at c.args.remove w (Ok done) after c.args.steps.now c.replace.new.steps) view
-    (unit_accepted before after c.args.at c.args.remove w c.index-first.result.at c.index_from-end.result.at c.saturating_sub.result refl k_is low first end order
+    (unit_accepted before after c.args.at c.args.remove w c.index-first.result.at c.index_from-end.result.at
+    c.saturating_sub.result refl k_is low first end order
     _ _ c.in-Ok.ensures.edited c.in-Ok.ensures.reads)
 
 pub returns-in-Err-TooLong : goal.returns-in-Err-TooLong
