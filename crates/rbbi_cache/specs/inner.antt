@@ -3,6 +3,7 @@ pub mod Kept
 pub mod Pushed
 pub mod Parts
 pub mod Scans
+pub mod Back
 pub mod Shown
 pub mod Lists
 pub mod Ready

@@ -107,8 +107,16 @@ impl Cache {
     {
         table.valid();
         let floor = self.floor_before(i);
-        let spare = &mut self.spare;
-        let Some(entry) = search_back(table, text, i, floor, spare, &mut self.marks, steps) else {
+        let Some(entry) = search_back(
+            table,
+            text,
+            i,
+            floor,
+            &mut self.spare,
+            &mut self.read,
+            &mut self.marks,
+            steps,
+        ) else {
             return START;
         };
         let (from, to) = self.apart_around(i);

@@ -38,6 +38,8 @@ pub struct Cache {
     pub(crate) next: RunList,
     /// The run that a search fills, before it is kept.
     pub(crate) spare: Run,
+    /// The categories of characters that are read back from a place.
+    pub(crate) read: [u16; 64],
     /// Scratch space of searches.
     pub(crate) marks: FrontPlaces,
     /// From this place up to before the next one no run but the first shows a boundary, so that
@@ -74,6 +76,7 @@ impl Cache {
             runs: RunList::empty(alloc)?,
             next: RunList::empty(alloc)?,
             spare: Run::empty(alloc)?,
+            read: [0; 64],
             marks: FrontPlaces::new(alloc, table)?,
             quiet_from: 0,
             quiet_to: 0,

@@ -9,6 +9,7 @@ mod entry;
 mod extended;
 mod fixed;
 mod parts;
+mod reading_back;
 mod run;
 mod run_list;
 mod runs;
@@ -17,6 +18,7 @@ mod search;
 mod search_back;
 mod shown;
 mod single;
+mod wide;
 
 pub use anchors::anchor_before;
 pub use cache::Cache;

@@ -1,15 +1,19 @@
 //! The last boundary before a place: found by searches from anchors farther and farther back.
-ghost use Rattle.std.specs.Prelude.{◌≡◌, ℕ, ◌+◌, ◌-◌, ◌<◌, ◌≤◌, ◌⊎◌, true, length, List};
+ghost use Rattle.std.specs.Prelude.{◌≡◌, ℕ, ◌+◌, ◌-◌, ◌<◌, ◌≤◌, ◌⊎◌, length, drop, List};
 ghost use Rattle.std.specs.Prelude.{MatchOption};
 ghost use Rattle.rbbi_model.specs.Words.{most_characters};
 ghost use Rattle.rbbi_model.specs.Runs as model;
 ghost use Rattle.rbbi_model.specs.Runs.{IsAnchor};
-ghost use Rattle.rbbi_model.specs.Costs.{settles, searches_cost, back_cost};
+ghost use Rattle.rbbi_model.specs.Costs.{searches_cost, back_cost};
 ghost use Rattle.rbbi_cache.specs.Kept.{IsLastBefore};
+ghost use Rattle.rbbi_cache.specs.inner.Back.{AreBack};
+ghost use Rattle.rbbi_cache.specs.inner.Lists.{StandsLastButOne};
 ghost use Rattle.rbbi_cache.specs.inner.Ready.{HasNoneBefore, IsFloor, IsReadyBefore};
 
 use crate::anchors::anchor_before;
+use crate::reading_back::{Back, read_back};
 use crate::scan::scan;
+use crate::wide::fill_from;
 use crate::{Entry, Run};
 use rbbi_table::{FrontPlaces, Table};
 use rbbi_text::{Chars, Steps};
@@ -24,10 +28,12 @@ pub(crate) fn search_back<T: Chars, L: Ledger>(
     i: u32,
     floor: u32,
     run: &mut Run,
+    slots: &mut [u16],
     marks: &mut FrontPlaces,
     steps: &mut Steps<L>,
 ) -> Option<Entry>
     requires fit { marks.old ≡ table.now.slashes }
+    requires room { length slots.old ≡ 64 }
     requires some { 0 < i }
     requires within { i ≤ length (T.characters text.now) }
     requires small { i ≤ most_characters }
@@ -42,16 +48,71 @@ pub(crate) fn search_back<T: Chars, L: Ledger>(
     ensures fit { marks.new ≡ marks.old }
 {
     table.valid();
-    let mut anchor = anchor_before(table, text, 0, i.saturating_sub(2), steps);
+    let back = read_back(table, text, i, slots, steps);
+    if let Some(entry) = search_wide(table, text, back, slots, i, floor, run, marks, steps) {
+        return Some(entry);
+    }
+    let mut anchor = back.near;
     'tries: loop {
-        if let Some(entry) = search_from(table, text, anchor, i, floor, run, marks, steps) {
-            return Some(entry);
-        }
         if anchor == 0 {
             return None;
         }
         anchor = anchor_before(table, text, 0, (2 * anchor + 1).saturating_sub(i), steps);
+        if let Some(entry) = search_from(table, text, anchor, i, floor, run, marks, steps) {
+            return Some(entry);
+        }
     }
+}
+
+/// As `search_from`, from the near anchor. Where it can, it begins at the wide one and finds more.
+fn search_wide<T: Chars, L: Ledger>(
+    table: &Table,
+    text: &T,
+    back: Back,
+    slots: &[u16],
+    i: u32,
+    floor: u32,
+    run: &mut Run,
+    marks: &mut FrontPlaces,
+    steps: &mut Steps<L>,
+) -> Option<Entry>
+    requires fit { marks.old ≡ table.now.slashes }
+    requires some { 0 < i }
+    requires within { i ≤ length (T.characters text.now) }
+    requires small { i ≤ most_characters }
+    requires floor { IsFloor table.now (T.characters text.now) floor i }
+    requires start { back.start ≤ length slots.now }
+    requires back { AreBack table.now (T.characters text.now) i back.near back.wide back.from
+        (drop back.start slots.now) }
+    ensures found { MatchOption result
+        (HasNoneBefore table.now (T.characters text.now) back.near i)
+        (λ entry. (kept : List model.Run) →
+        IsReadyBefore table.now (T.characters text.now) i kept entry run.new) }
+    ensures more { steps.old ≤ steps.new }
+    ensures cost { steps.new
+        ≤ steps.old + searches_cost table.now (T.characters text.now) back.near (i - 1) }
+    ensures fit { marks.new ≡ marks.old }
+{
+    table.valid();
+    if back.wide < back.near && back.wide < floor {
+        let read = &slots[back.start..];
+        if fill_from(table, text, back, read, run, i, marks, steps) {
+            return last_but_one(run);
+        }
+    }
+    search_from(table, text, back.near, i, floor, run, marks, steps)
+}
+
+/// The entry that stands last but one, if there are so many.
+fn last_but_one(run: &Run) -> Option<Entry>
+    ensures { MatchOption result (length run.now.entries < 2)
+        (λ entry. StandsLastButOne run.now.entries entry) }
+{
+    let entries = run.entries();
+    if entries.len() < 2 {
+        return None;
+    }
+    Some(entries[entries.len() - 2])
 }
 
 /// Searches from an anchor for the last boundary before `i` two characters past it or more. From an
@@ -75,9 +136,8 @@ fn search_from<T: Chars, L: Ledger>(
     requires floor { IsFloor table.now (T.characters text.now) floor i }
     ensures found { MatchOption result
         (HasNoneBefore table.now (T.characters text.now) anchor i)
-        (λ entry. (settles table.now (T.characters text.now) i anchor ≡ true)
-        × ((kept : List model.Run) →
-        IsReadyBefore table.now (T.characters text.now) i kept entry run.new)) }
+        (λ entry. (kept : List model.Run) →
+        IsReadyBefore table.now (T.characters text.now) i kept entry run.new) }
     ensures more { steps.old ≤ steps.new }
     ensures cost { steps.new
         ≤ steps.old + searches_cost table.now (T.characters text.now) anchor (i - 1) }
@@ -94,9 +154,5 @@ fn search_from<T: Chars, L: Ledger>(
         reach: 0,
     };
     scan(table, text, run, from, i - 1, marks, steps);
-    let entries = run.entries();
-    if entries.len() < 2 {
-        return None;
-    }
-    Some(entries[entries.len() - 2])
+    last_but_one(run)
 }

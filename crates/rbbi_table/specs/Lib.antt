@@ -1,5 +1,6 @@
 pub mod Errors
 pub mod Parts
+pub mod Reading
 pub mod Answers
 pub mod Pairs
 pub mod Blocks

@@ -25,3 +25,9 @@ pub record GoesOnFrom (i : ℕ) (from : Entry) (run : Run) : Type 0 where
   pub front : List Entry
   pub whole : run.entries ≡ front ++ from ∷ []
   pub up_to : from.at ≤ i
+
+-- the entry stands last but one
+pub record StandsLastButOne (entries : List Entry) (entry : Entry) : Type 0 where
+  pub before : List Entry
+  pub last : Entry
+  pub whole : entries ≡ before ++ entry ∷ (last ∷ [])
