@@ -12,6 +12,7 @@ use Rattle.rbbi_model.specs.Runs.{Entry, Run, IsAnchor, low, boundary_of}
 use Rattle.rbbi_model.specs.Costs.{settles}
 use Rattle.rbbi_model.proofs.Lists.{all_append, all_right, all_through}
 use Rattle.rbbi_cache.specs.inner.Scans.{HasGoneOn, ContinuesScan}
+use Rattle.rbbi_cache.specs.inner.Lists.{StandsLastButOne}
 use Rattle.rbbi_cache.specs.inner.Ready.{IsReadyAfter, IsReadyBefore, HasNoneBefore}
 use Rattle.rbbi_cache.proofs.Reached.{rest_after}
 use Rattle.rbbi_cache.proofs.RunFacts as facts
@@ -25,9 +26,26 @@ parted_last [] some = absurd (omega arith)
 parted_last (e ∷ []) some = ([], (e, refl))
 parted_last (e ∷ f ∷ front) some = let more = parted_last (f ∷ front) (omega arith) in (e ∷ more.0, (more.1.0, ap (λ l. e ∷ l) more.1.1))
 
-any_at : (test : Boundary → Bool) (before : List Boundary) (b : Boundary) (after : List Boundary) → test b ≡ true → list_any test (before ++ b ∷ after) ≡ true
-any_at test [] b after holds = or_left (test b) (list_any test after) holds
-any_at test (c ∷ before) b after holds = or_right (test c) (list_any test (before ++ b ∷ after)) (any_at test before b after holds)
+-- what stands last but one is one entry
+same_place : (before : List Entry) (e last : Entry) (rest : List Entry) (d here : Entry) → before ++ e ∷ (last ∷ []) ≡ rest ++ d ∷ (here ∷ []) → e ≡ d
+same_place before e last rest d here is =
+    let long : length before ≡ length rest = omega (arith, ap length is, length-append before (e ∷ (last ∷ [])), length-append rest (d ∷ (here ∷ []))) in
+    sym (get_or-append_seam before e (last ∷ []) e)
+    ∙ ap (λ l. get_or l (length before) e) is
+    ∙ ap (λ n. get_or (rest ++ d ∷ (here ∷ [])) n e) long
+    ∙ get_or-append_seam rest d (here ∷ []) e
+
+-- what stands at its number
+pub stands_there : (entries : List Entry) → 2 ≤ length entries → (e : Entry) → e ≡ get_or entries (length entries - 2) e → StandsLastButOne entries e
+stands_there entries many e is =
+    let ends = parted_last entries (omega arith) in
+    let parts = parted_last ends.0 (omega (arith, ap length ends.1.1, length-append ends.0 (ends.1.0 ∷ []))) in
+    let whole : entries ≡ parts.0 ++ parts.1.0 ∷ (ends.1.0 ∷ []) =
+    ends.1.1 ∙ ap (λ l. l ++ ends.1.0 ∷ []) parts.1.1 ∙ append_assoc parts.0 (parts.1.0 ∷ []) (ends.1.0 ∷ []) in
+    let long : length entries - 2 ≡ length parts.0 = omega (arith, ap length whole, length-append parts.0 (parts.1.0 ∷ (ends.1.0 ∷ []))) in
+    let same : e ≡ parts.1.0 =
+    is ∙ ap (λ n. get_or entries n e) long ∙ ap (λ l. get_or l (length parts.0) e) whole ∙ get_or-append_seam parts.0 parts.1.0 (ends.1.0 ∷ []) e in
+    record { before = parts.0; last = ends.1.0; whole = whole ∙ ap (λ d. parts.0 ++ d ∷ (ends.1.0 ∷ [])) (sym same) }
 
 none_any : (test : Boundary → Bool) (bs : List Boundary) → AllByRecursion (λ b. test b ≡ false) bs → list_any test bs ≡ false
 none_any test [] each = refl
@@ -61,10 +79,10 @@ module _ (table : Table) (valid : IsValidTable table) (x : List ℕ) (i p : ℕ)
     IsAnchor table x p)
     (run : Run) (begun : run ≡ record { anchor = p; entries = []; leads = true }) (here : Entry) (after : Run) (before now : ℕ)
     (gone_on : ContinuesScan table x run.anchor (i - 1) (record { at = p; status = 0; reach = 0 }) run here after before now) (past : i - 1 < here.at) where
-  pub up_to : p ≤ i - 1
+  up_to : p ≤ i - 1
   up_to = ⊎_elim (λ zero. omega arith) (λ far. omega arith) near
 
-  pub gone : HasGoneOn table x p (i - 1) (at_anchor table valid x (i - 1) p run begun up_to (omega arith)) here after before now
+  gone : HasGoneOn table x p (i - 1) (at_anchor table valid x (i - 1) p run begun up_to (omega arith)) here after before now
   gone = gone_from_anchor table valid x (i - 1) p run begun up_to (omega arith) here after before now gone_on past
 
   known : gone.scan.known ≡ []
@@ -129,12 +147,19 @@ module _ (table : Table) (valid : IsValidTable table) (x : List ℕ) (i p : ℕ)
       entries_far (e ∷ f ∷ entries) last short = absurd (omega arith)
 
   -- with two entries or more, the last but one is the answer
-  module _ (many : 2 ≤ length after.entries) where
-    pub ends : (front : List Entry) × (after.entries ≡ front ++ gone.scan.here ∷ []) × AllByRecursion (λ e. e.at ≤ i - 1) front
-    ends = run_ends table valid x p (i - 1) gone.scan after gone.is (omega arith)
+  module _ (e : Entry) (there : StandsLastButOne after.entries e) where
+    ends : (front : List Entry) × (after.entries ≡ front ++ gone.scan.here ∷ []) × AllByRecursion (λ e. e.at ≤ i - 1) front
+    ends = run_ends table valid x p (i - 1) gone.scan after gone.is (omega (arith, ap length there.whole, length-append there.before (e ∷ (there.last ∷ []))))
 
-    pub parts : (rest : List Entry) × ((e : Entry) × (ends.0 ≡ rest ++ e ∷ []))
-    parts = parted_last ends.0 (omega (arith, ap length ends.1, length-append ends.0 (gone.scan.here ∷ [])))
+    parts : (rest : List Entry) × ((d : Entry) × (ends.0 ≡ rest ++ d ∷ []))
+    parts = parted_last ends.0 (omega (
+      arith,
+      ap length there.whole,
+      length-append there.before (e ∷ (there.last ∷ [])),
+      ap length ends.1,
+      length-append
+          ends.0 (gone.scan.here ∷ []),
+    ))
 
     whole : after.entries ≡ parts.0 ++ parts.1.0 ∷ (gone.scan.here ∷ [])
     whole = ends.1 ∙ ap (λ l. l ++ gone.scan.here ∷ []) parts.1.1 ∙ append_assoc parts.0 (parts.1.0 ∷ []) (gone.scan.here ∷ [])
@@ -142,21 +167,9 @@ module _ (table : Table) (valid : IsValidTable table) (x : List ℕ) (i p : ℕ)
     before_place : parts.1.0.at ≤ i - 1
     before_place = (all_right (λ e. e.at ≤ i - 1) parts.0 (parts.1.0 ∷ []) (subst (λ l. AllByRecursion (λ e. e.at ≤ i - 1) l) parts.1.1 ends.2)).0
 
-    -- the entry that stands last but one
-    pub stands : (entries : List Entry) → entries ≡ after.entries → (d : Entry) → get_or entries (length entries - 2) d ≡ parts.1.0
-    stands entries same d =
-        let long : length entries - 2 ≡ length parts.0 = omega (
-          arith,
-          ap length same,
-          ap length whole,
-          length-append parts.0 (parts.1.0 ∷ (gone.scan.here ∷
-              [])),
-        ) in
-        ap (λ n. get_or entries n d) long ∙ ap (λ l. get_or l (length parts.0) d) (same ∙ whole) ∙ get_or-append_seam parts.0 parts.1.0 (gone.scan.here ∷ []) d
-
-    pub ready_back : (kept : List Run) (e : Entry) → e ≡ parts.1.0 → IsReadyBefore table x i kept e after
-    ready_back kept e same =
-        subst (λ f. IsReadyBefore table x i kept f after) (sym same)
+    pub ready_back : (kept : List Run) → IsReadyBefore table x i kept e after
+    ready_back kept =
+        subst (λ f. IsReadyBefore table x i kept f after) (sym (same_place there.before e there.last parts.0 parts.1.0 gone.scan.here (sym there.whole ∙ whole)))
         (record {
           is_true = (ready kept).is_true;
           shows = (
@@ -166,29 +179,10 @@ module _ (table : Table) (valid : IsValidTable table) (x : List ℕ) (i p : ℕ)
               after = gone.scan.here ∷ [];
               whole = whole;
               at = refl;
-              short_of = let up = before_place in omega
-                  arith;
+              short_of = let up = before_place in omega arith;
               nearest = inl past_here;
             },
             refl,
           );
           reaches = (ready kept).reaches;
         })
-
-    pub settled : settles table x i p ≡ true
-    settled =
-        let is_true = (ready []).is_true in
-        let up = before_place in
-        ⊎_elim
-        (λ zero. zero_settles table x i p zero)
-        (λ other.
-        let is = ap (fresh table x) (sym gone.is.anchor) ∙ facts.fresh_is table valid x after is_true parts.0 parts.1.0 (gone.scan.here ∷ []) whole in
-        let far : p + 2 ≤ parts.1.0.at =
-        ⊎_elim (λ zero. absurd (other (sym gone.is.anchor ∙ zero))) (λ past. omega (arith, gone.is.anchor)) (facts.place table valid x after is_true parts.0
-        parts.1.0 (gone.scan.here ∷ []) whole) in
-        or_right (eqb p 0) (list_any (λ (member : Boundary). leb (p + 2) member.at && ltb member.at i) (fresh table x p))
-        (ap (list_any (λ (member : Boundary). leb (p + 2) member.at && ltb member.at i)) is
-        ∙ any_at (λ (member : Boundary). leb (p + 2) member.at && ltb member.at i) (is_true.consecutive.before ++ map (boundary_of table) parts.0) (boundary_of
-        table parts.1.0) (map (boundary_of table) (gone.scan.here ∷ []) ++ is_true.consecutive.after)
-        (and_from (leb (p + 2) parts.1.0.at) (ltb parts.1.0.at i) (le-leb (p + 2) parts.1.0.at far) (lt-ltb parts.1.0.at i (omega arith)))))
-        (cases_eq p 0)

@@ -38,7 +38,7 @@ module _ (table : Table) (valid : IsValidTable table) (x : List ℕ) (i : ℕ) w
       here = record { at = p; status = 0; reach = 0 };
     }
 
-    starts : IsScan table x p i at_anchor run
+    pub starts : IsScan table x p i at_anchor run
     starts = scan_from_anchor table valid x p i run begun (omega arith)
 
     pub begins_at_anchor : HasBegun table x run.anchor i (record { at = p; status = 0; reach = 0 }) run

@@ -31,6 +31,7 @@ pub mod PutFirst
 mod Apart
 pub mod Ready
 pub mod Begins
+mod Filling
 pub mod Backward
 pub mod TriedBack
 pub mod Keeping

@@ -1,6 +1,7 @@
 -- What holds of each element of a list, and what a filter keeps.
-use Rattle.std.proofs.Common.{◌≡◌, ℕ, max, Bool, true, false, cond, List, [], ◌∷◌, ◌++◌, map, filter, sym, refl, ap, ◌∙◌, subst, ⊎_elim, arith}
+use Rattle.std.proofs.Common.{◌≡◌, ℕ, max, Bool, true, false, cond, Option, None, Some, List, [], ◌∷◌, ◌++◌, map, filter, sym, refl, ap, ◌∙◌, subst, ⊎_elim, arith}
 use Rattle.std.specs.List.{AllByRecursion}
+use Rattle.std.specs.Prelude.{MatchOption}
 use Rattle.std.proofs.lemmas.Bool.{cond-true, cond-false, cases_Bool}
 use Rattle.rbbi_model.specs.Places.{largest}
 
@@ -85,3 +86,8 @@ max_assoc a b c = omega arith
 pub largest_join : (xs ys : List ℕ) → largest (xs ++ ys) ≡ max (largest xs) (largest ys)
 largest_join [] ys = omega arith
 largest_join (x ∷ xs) ys = ap (λ n. max x n) (largest_join xs ys) ∙ max_assoc x (largest xs) (largest ys)
+
+-- another thing holds of an option where there is none, and of what it has
+pub mapped : {X A B : Type 0} {P Q : X → Type 0} (found : Option X) → (A → B) → ((x : X) → P x → Q x) → MatchOption found A P → MatchOption found B Q
+mapped None none some is = none is
+mapped (Some x) none some is = some x is

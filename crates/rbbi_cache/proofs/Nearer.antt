@@ -59,7 +59,7 @@ searched_path table x p done b searched c first last =
 
 module _ (table : Table) (valid : IsValidTable table) (x : List ℕ) (q : ℕ) (anchor : IsAnchor table x q) where
   -- a boundary that isn't before the anchor is found from there
-  member : (k : ℕ) → q ≤ k → IsPlaceOf (table_boundaries table x) k → Stands (λ b. b.at ≡ k) (fresh table x q)
+  pub member : (k : ℕ) → q ≤ k → IsPlaceOf (table_boundaries table x) k → Stands (λ b. b.at ≡ k) (fresh table x q)
   member k from here =
       ⊎_elim
       (λ same. record {

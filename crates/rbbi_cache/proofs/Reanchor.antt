@@ -12,7 +12,7 @@ use Rattle.rbbi_model.specs.Tables.{Table}
 use Rattle.rbbi_model.specs.SafePairs.{IsSafePair}
 use Rattle.rbbi_model.specs.ValidTables.{IsValidTable}
 use Rattle.rbbi_model.specs.Searches.{look_end, next_boundary, follow_by, fresh, table_boundaries}
-use Rattle.rbbi_model.specs.Runs.{Entry, Run, category_at, low, boundary_of, farthest_look, look_ends, ReachesRise, from_place, IsTrueRun}
+use Rattle.rbbi_model.specs.Runs.{Entry, Run, category_at, low, boundary_of, farthest_look, look_ends, ReachesRise, from_place, IsAnchor, IsTrueRun}
 use Rattle.rbbi_model.proofs.Rising.{rising_tail}
 use Rattle.rbbi_model.proofs.Found.{found_lies}
 use Rattle.rbbi_model.proofs.Covering.{follow_rise}
@@ -99,6 +99,19 @@ passing table x q k _ _ _ (Then b done c short path) looks starts ends =
 pub fresh_rises : (table : Table) (x : List ℕ) (p : ℕ) → IsRising (places (fresh table x p))
 fresh_rises table x p = follow_rise (next_boundary table x) (length x) (λ s short. found_lies table x s short) (length x) (first_member p)
 
+-- two characters past an anchor the searches from it find what those from an earlier one find
+pub same_beyond : (table : Table) → IsValidTable table → (x : List ℕ) (p : ℕ) → IsAnchor table x p → (q : ℕ) → IsAnchor table x q → low p ≤ q + 2 →
+    from_place (q + 2) (fresh table x q) ≡ from_place (q + 2) (fresh table x p)
+same_beyond table valid x p anchor q other order =
+    let here = (fresh_true table valid x q other).1 in
+    let there = (fresh_true table valid x p anchor).1 in
+    sym (place_later (low q) (q + 2) (low_is q) (fresh table x q))
+    ∙ ap (from_place (q + 2)) here
+    ∙ place_later (low q) (q + 2) (low_is q) (table_boundaries table x)
+    ∙ sym (place_later (low p) (q + 2) order (table_boundaries table x))
+    ∙ ap (from_place (q + 2)) (sym there)
+    ∙ place_later (low p) (q + 2) order (fresh table x p)
+
 module _ (table : Table) (valid : IsValidTable table) (x : List ℕ) (run : Run) (is_true : IsTrueRun table x run) (q : ℕ) (room : q + 2 ≤ length x)
     (safe : IsSafePair table (category_at table x q) (category_at table x (q + 1))) (order : run.anchor ≤ q) where
   -- past the pair the searches from it find the places that those from the anchor find
@@ -116,17 +129,7 @@ module _ (table : Table) (valid : IsValidTable table) (x : List ℕ) (run : Run)
 
   -- and two characters on the boundaries
   pub same_boundaries : from_place (q + 2) (fresh table x q) ≡ from_place (q + 2) (fresh table x run.anchor)
-  same_boundaries =
-      let here = (fresh_true table valid x q (inr (room, safe))).1 in
-      let there = (fresh_true table valid x run.anchor is_true.anchor).1 in
-      let low_here = low_is q in
-      let low_there = low_is run.anchor in
-      sym (place_later (low q) (q + 2) low_here (fresh table x q))
-      ∙ ap (from_place (q + 2)) here
-      ∙ place_later (low q) (q + 2) low_here (table_boundaries table x)
-      ∙ sym (place_later (low run.anchor) (q + 2) (omega arith) (table_boundaries table x))
-      ∙ ap (from_place (q + 2)) (sym there)
-      ∙ place_later (low run.anchor) (q + 2) (omega arith) (fresh table x run.anchor)
+  same_boundaries = let least = low_is run.anchor in same_beyond table valid x run.anchor is_true.anchor q (inr (room, safe)) (omega arith)
 
   module _ (front : List Entry) (entry : Entry) (rest : List Entry) (whole : run.entries ≡ front ++ entry ∷ rest) (past : q + 2 ≤ entry.at) where
     -- the search from the pair looks no farther than the entry reaches

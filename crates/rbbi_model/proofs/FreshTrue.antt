@@ -20,7 +20,7 @@ module _ (next : ℕ → Boundary) (n : ℕ) (lies : (s : ℕ) → s < n → (s 
   done (suc most) last end = cond-false (ltb last.at n) (next last.at ∷ follow_by next n most (next last.at)) [] (le-ltb last.at n end)
 
   -- what follows depends on the place alone, where the bound suffices
-  same_follow : (most other : ℕ) (last that : Boundary) → last.at ≡ that.at → n ≤ last.at + most → n ≤ that.at + other →
+  pub same_follow : (most other : ℕ) (last that : Boundary) → last.at ≡ that.at → n ≤ last.at + most → n ≤ that.at + other →
       follow_by next n most last ≡ follow_by next n other that
   same_follow zero other last that same enough enough' = sym (done other that (omega arith))
   same_follow (suc most) zero last that same enough enough' = done (suc most) last (omega arith)
