@@ -35,3 +35,4 @@ pub mod Backward
 pub mod TriedBack
 pub mod Keeping
 pub mod Answering
+pub mod ReadBack
