@@ -35,4 +35,4 @@ pub mod Backward
 pub mod TriedBack
 pub mod Keeping
 pub mod Answering
-pub mod ReadBack
+mod ReadBack

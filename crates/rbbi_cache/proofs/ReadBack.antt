@@ -43,7 +43,7 @@ pub record KeepsBack (table : Table) (x : List ℕ) (end place next : ℕ) (slot
   pub within : place < end → next < table.categories
 
 -- where the test fails from a place on, nothing is found past it
-pub same_below : (test : ℕ → Bool) (place high : ℕ) → place ≤ high → ((p : ℕ) → place ≤ p → p < high → test p ≡ false) →
+same_below : (test : ℕ → Bool) (place high : ℕ) → place ≤ high → ((p : ℕ) → place ≤ p → p < high → test p ≡ false) →
     greatest_below test high ≡ greatest_below test place
 same_below test place zero order none = let same : zero ≡ place = omega arith in ap (greatest_below test) same
 same_below test place (suc high) order none =

@@ -61,15 +61,15 @@ loop-least-preserved g c =
 pub returns-then-place-gt0-clause-near : goal.returns-then-place-gt0-clause-near
 returns-then-place-gt0-clause-near g c =
     sym (goes_on c.args.table.now (g.T.Chars.characters c.args.text.now) c.args.i c.min-end.result c.loop-least.place c.loop-least.least
-    c.loop-least.near c.loop-least.wide c.requires.within c.requires.some c.loop-least.invariant.finds c.if-near-eq0-2.true (omega arith) (omega arith) (omega arith)
-    c.anchor_before-near.result c.anchor_before-near.ensures.anchor)
+    c.loop-least.near c.loop-least.wide c.requires.within c.requires.some c.loop-least.invariant.finds c.if-near-eq0-2.true (omega arith)
+    (omega arith) (omega arith) c.anchor_before-near.result c.anchor_before-near.ensures.anchor)
 
 pub returns-then-place-gt0-clause-back : goal.returns-then-place-gt0-clause-back
 returns-then-place-gt0-clause-back g c =
     is_back c.args.table.now (g.T.Chars.characters c.args.text.now) c.valid.ensures c.args.i c.anchor_before-near.result c.loop-least.place _
     (goes_on c.args.table.now (g.T.Chars.characters c.args.text.now) c.args.i c.min-end.result c.loop-least.place c.loop-least.least
-    c.loop-least.near c.loop-least.wide c.requires.within c.requires.some c.loop-least.invariant.finds c.if-near-eq0-2.true (omega arith) (omega arith) (omega arith)
-    c.anchor_before-near.result c.anchor_before-near.ensures.anchor)
+    c.loop-least.near c.loop-least.wide c.requires.within c.requires.some c.loop-least.invariant.finds c.if-near-eq0-2.true (omega arith)
+    (omega arith) (omega arith) c.anchor_before-near.result c.anchor_before-near.ensures.anchor)
 
 pub returns-else-near-eq0-2-clause-near : goal.returns-else-near-eq0-2-clause-near
 returns-else-near-eq0-2-clause-near g c =
@@ -84,5 +84,5 @@ pub returns-else-near-eq0-2-clause-back : goal.returns-else-near-eq0-2-clause-ba
 returns-else-near-eq0-2-clause-back g c =
     are_back c.args.table.now (g.T.Chars.characters c.args.text.now) c.args.i c.min-end.result c.loop-least.place c.loop-least.least c.loop-least.near
     c.loop-least.wide c.requires.within c.requires.some _ c.loop-least.invariant.finds
-    (are_read c.args.table.now (g.T.Chars.characters c.args.text.now) c.min-end.result c.loop-least.place c.loop-least.next c.loop-least.slots c.loop-least.invariant.kept
-    (omega arith) (omega arith) (omega arith) (omega arith))
+    (are_read c.args.table.now (g.T.Chars.characters c.args.text.now) c.min-end.result c.loop-least.place c.loop-least.next c.loop-least.slots
+    c.loop-least.invariant.kept (omega arith) (omega arith) (omega arith) (omega arith))
