@@ -36,3 +36,4 @@ pub mod Backward
 pub mod TriedBack
 pub mod Keeping
 pub mod Answering
+mod ReadBack
