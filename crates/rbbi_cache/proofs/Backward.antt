@@ -2,7 +2,7 @@
 use Rattle.std.proofs.Common.{◌≡◌, ◌≢◌, ℕ, ◌+◌, ◌-◌, ◌<◌, ◌≤◌, ◌⊎◌, Bool, true, false, ◌&&◌, ◌||◌, eqb, ltb, leb, List, [], ◌∷◌, ◌++◌, length, length-append}
 use Rattle.std.proofs.Common.{length-drop, map, get_or, sym, refl, ap, ◌∙◌, subst, inl, inr, ⊎_elim, append_assoc, arith}
 use Rattle.std.specs.List.{AllByRecursion, list_any}
-use Rattle.std.proofs.lemmas.Bool.{cases_eq, cases_lt, cond-true, cond-false, eq-eqb, ne_eqb, le-leb, lt-leb, lt-ltb, le-ltb, or_left, or_right, and_from}
+use Rattle.std.proofs.lemmas.Bool.{cases_eq, cases_lt, cond-true, cond-false, eq-eqb, ne_eqb, lt-leb, le-ltb, or_left}
 use Rattle.std.proofs.Math.Seq.{get_or-append_seam}
 use Rattle.rbbi_model.specs.Boundaries.{Boundary}
 use Rattle.rbbi_model.specs.Tables.{Table}
@@ -15,7 +15,6 @@ use Rattle.rbbi_cache.specs.inner.Scans.{HasGoneOn, ContinuesScan}
 use Rattle.rbbi_cache.specs.inner.Lists.{StandsLastButOne}
 use Rattle.rbbi_cache.specs.inner.Ready.{IsReadyAfter, IsReadyBefore, HasNoneBefore}
 use Rattle.rbbi_cache.proofs.Reached.{rest_after}
-use Rattle.rbbi_cache.proofs.RunFacts as facts
 use Rattle.rbbi_cache.proofs.Scanned.{fresh_is, run_ends}
 use Rattle.rbbi_cache.proofs.Ready.{IsAnchorBelow}
 use Rattle.rbbi_cache.proofs.Begins.{at_anchor, gone_from_anchor, anchor_ready}

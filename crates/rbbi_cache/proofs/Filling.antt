@@ -1,7 +1,7 @@
 -- Searches from an anchor farther back than another, and what they read past that.
 use Rattle.std.proofs.Common.{◌≡◌, ℕ, ◌+◌, ◌-◌, ◌<◌, ◌≤◌, ◌⊎◌, max, min, true, leb, List, [], ◌∷◌, ◌++◌, length, filter, sym, refl, ap, ◌∙◌, subst, inl, inr, ⊎_elim, arith}
 use Rattle.std.specs.Prelude.{sum_by}
-use Rattle.std.proofs.lemmas.Bool.{cases_lt, cond-true, cond-false, le-leb, lt-leb, lt-ltb}
+use Rattle.std.proofs.lemmas.Bool.{cases_lt, cond-true, cond-false, le-leb, lt-leb}
 use Rattle.std.proofs.lemmas.List.{append-nil}
 use Rattle.std.proofs.lemmas.List.Elements.{filter-append}
 use Rattle.std.proofs.lemmas.List.Sums.{sum_by-append, sum_by-cons}
@@ -66,8 +66,11 @@ module _ (table : Table) (x : List ℕ) (i : ℕ) where
   -- one search and those from what it finds
   pub cost_step : (y : ℕ) → y < length x → y ≤ i → searches_cost table x y i ≡ characters_read table x y + searches_cost table x (found table x y).at i
   cost_step y short low =
-      omega (arith, cost_from y (first_member y ∷ []) (next_boundary table x y) (reached_step table x y [] (first_member y) (reached_start table x y) short),
-      counts (first_member y) [] low)
+      omega (
+        arith,
+        cost_from y (first_member y ∷ []) (next_boundary table x y) (reached_step table x y [] (first_member y) (reached_start table x y) short),
+        counts (first_member y) [] low,
+      )
 
   module _ (valid : IsValidTable table) (q : ℕ) (anchor : IsAnchor table x q) where
     -- what is found from an anchor is a boundary
@@ -85,8 +88,12 @@ module _ (table : Table) (x : List ℕ) (i : ℕ) where
     boundary_cost : (k : ℕ) → q ≤ k → IsPlaceOf (table_boundaries table x) k → searches_cost table x k i ≤ searches_cost table x q i
     boundary_cost k from here =
         let stands = member table valid x q anchor k from here in
-        omega (arith, cost_from q stands.before stands.member (reached_of table x q stands.before stands.member stands.after stands.whole), ap (λ n.
-        searches_cost table x n i) stands.such)
+        omega (
+          arith,
+          cost_from q stands.before stands.member (reached_of table x q stands.before stands.member stands.after stands.whole),
+          ap (λ n.
+              searches_cost table x n i) stands.such,
+        )
 
 -- The entry of an anchor, and the run that begins there.
 abbrev first_entry : ℕ → Entry
@@ -154,8 +161,15 @@ module _ (table : Table) (valid : IsValidTable table) (x : List ℕ) (i near wid
         (cases_lt near next.at))
         (λ paid. inr (
           omega (arith, paid.0, at_is, is.at_is, lies.0),
-          omega (arith, paid.1, cost, cost_step table x (i - 1) at short (omega arith), ap (λ n. searches_cost table x n (i - 1)) is.at_is, ap (λ n.
-              searches_cost table x n (i - 1)) at_is),
+          omega (
+            arith,
+            paid.1,
+            cost,
+            cost_step table x (i - 1) at short (omega arith),
+            ap (λ n. searches_cost table x n (i - 1)) is.at_is,
+            ap (λ n.
+                searches_cost table x n (i - 1)) at_is,
+          ),
         ))
         fills.paid
 

@@ -1,5 +1,5 @@
 -- From which anchor on nothing is found before a place.
-use Rattle.std.proofs.Common.{◌≡◌, ℕ, ◌+◌, ◌<◌, ◌≤◌, false, eqb, leb, List, [], ◌∷◌, Some, None, sym, subst, inl, inr, ⊎_elim, arith}
+use Rattle.std.proofs.Common.{◌≡◌, ℕ, ◌+◌, ◌<◌, ◌≤◌, false, eqb, leb, List, [], ◌∷◌, Some, None, sym, subst, ⊎_elim, arith}
 use Rattle.std.specs.List.{AllByRecursion, slice_get}
 use Rattle.std.proofs.lemmas.Bool.{cond-false, ne_eqb, leb-false}
 use Rattle.rbbi_model.specs.Boundaries.{Boundary}
@@ -8,7 +8,7 @@ use Rattle.rbbi_model.specs.ValidTables.{IsValidTable}
 use Rattle.rbbi_model.specs.Searches.{fresh}
 use Rattle.rbbi_model.specs.Runs.{Run, low, IsAnchor, LeadsTruly, IsTrueRun}
 use Rattle.rbbi_model.proofs.Lists.{all_through}
-use Rattle.rbbi_cache.specs.inner.Ready.{IsFloor, IsFloorFor, LeadsTo, IsFloorOf}
+use Rattle.rbbi_cache.specs.inner.Ready.{HasNoneBefore, IsFloor, IsFloorFor, LeadsTo, IsFloorOf}
 use Rattle.rbbi_cache.proofs.Lists.{everywhere, all_filter, all_by_test}
 use Rattle.rbbi_cache.proofs.Reanchor.{low_is, same_beyond}
 

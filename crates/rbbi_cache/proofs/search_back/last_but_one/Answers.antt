@@ -1,4 +1,4 @@
-use Rattle.std.proofs.Common.{subst, ap, sym, length, ◌≤◌, arith}
+use Rattle.std.proofs.Common.{subst, arith}
 use Rattle.rbbi_cache.proofs.Backward.{stands_there}
 use Rattle.rbbi_cache.specs.inner.Lists.{StandsLastButOne}
 use Rattle.rbbi_cache.proofs.search_back.last_but_one.Goals as goal

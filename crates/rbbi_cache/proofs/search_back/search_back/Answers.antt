@@ -1,8 +1,9 @@
-use Rattle.std.proofs.Common.{◌≡◌, ◌≢◌, ℕ, ◌+◌, ◌-◌, ◌*◌, max, List, subst, ap, ◌∙◌, arith}
+use Rattle.std.proofs.Common.{◌≡◌, ◌≢◌, ℕ, ◌+◌, ◌-◌, ◌*◌, max, ◌≤◌, List, subst, sym, ap, ◌∙◌, arith}
 use Rattle.rbbi_model.specs.Tables.{Table}
-use Rattle.rbbi_model.specs.Costs.{anchor_below}
+use Rattle.rbbi_model.specs.ValidTables.{IsValidTable}
+use Rattle.rbbi_model.specs.Costs.{anchor_below, searches_cost}
 use Rattle.rbbi_cache.specs.inner.Ready.{HasNoneBefore}
-use Rattle.rbbi_cache.proofs.Backward.{none_settles, zero_settles}
+use Rattle.rbbi_cache.proofs.Backward.{none_settles}
 use Rattle.rbbi_cache.proofs.TriedBack.{Tried, tried_first, tried_next, tried_last, start_is_last}
 use Rattle.rbbi_cache.proofs.search_back.search_back.Goals as goal
 
@@ -10,69 +11,83 @@ use Rattle.rbbi_cache.proofs.search_back.search_back.Goals as goal
 walked : (table : Table) (x : List ℕ) (high place q : ℕ) → high ≡ place → q ≡ max 0 (anchor_below table x high) → anchor_below table x place ≡ q
 walked table x high place q same is = omega (arith, is, ap (anchor_below table x) same)
 
-pub tries-init : goal.tries-init
-tries-init g c =
-    let high : c.saturating_sub.result ≡ c.args.i - 2 = c.saturating_sub.ensures in
-    let is = walked c.args.table.now (g.T.Chars.characters c.args.text.now) c.saturating_sub.result (c.args.i - 2) c.anchor_before-anchor.result high
-    c.anchor_before-anchor.ensures.anchor in
-    record {
-      tried = subst (λ q. Tried c.args.table.now (g.T.Chars.characters c.args.text.now) c.args.i q (c.anchor_before-anchor.new.steps - c.args.steps.now)) is
-          (tried_first c.args.table.now c.valid.ensures (g.T.Chars.characters c.args.text.now) c.args.i (c.anchor_before-anchor.new.steps - c.args.steps.now)
-          c.requires.some
-          (omega (arith, is, high, c.anchor_before-anchor.ensures.read, c.anchor_before-anchor.ensures.more))
-          (λ near. omega (arith, c.anchor_before-anchor.ensures.nothing (omega (arith, near, high)))));
-      more = c.anchor_before-anchor.ensures.more;
-      fit = omega arith;
-    }
-
 pub returns-in-Some-clause-cost : goal.returns-in-Some-clause-cost
 returns-in-Some-clause-cost g c =
-    let at = c.tries.invariant in
-    let settled = c.in-Some.ensures.found.0 in
-    let most = tried_last c.args.table.now c.valid.ensures (g.T.Chars.characters c.args.text.now) c.args.i c.tries.anchor (c.tries.steps - c.args.steps.now)
-    c.requires.some at.tried settled (c.search_from.new.steps - c.args.steps.now)
-    (omega (arith, at.more, c.search_from.ensures.cost)) in
-    omega (arith, most, at.more, c.search_from.ensures.more)
+    let back = c.read_back-back.ensures in
+    let tried = subst (λ q. Tried c.args.table.now (g.T.Chars.characters c.args.text.now) c.args.i q (c.read_back-back.new.steps - c.args.steps.now)) (sym back.near)
+    (tried_first c.args.table.now c.valid.ensures (g.T.Chars.characters c.args.text.now) c.args.i (c.read_back-back.new.steps - c.args.steps.now) c.requires.some
+    (omega (arith, back.near, back.cost, back.more))) in
+    let most = tried_last c.args.table.now c.valid.ensures (g.T.Chars.characters c.args.text.now) c.args.i c.read_back-back.result.near
+    (c.read_back-back.new.steps - c.args.steps.now) tried (c.search_wide.new.steps - c.args.steps.now) (omega (arith, back.more, c.in-Some.ensures.cost)) in
+    omega (arith, most, back.more, c.in-Some.ensures.more)
+
+pub tries-init : goal.tries-init
+tries-init g c =
+    let back = c.read_back-back.ensures in
+    record {
+      before = c.read_back-back.new.steps - c.args.steps.now;
+      tried = subst (λ q. Tried c.args.table.now (g.T.Chars.characters c.args.text.now) c.args.i q (c.read_back-back.new.steps - c.args.steps.now)) (sym back.near)
+          (tried_first c.args.table.now c.valid.ensures (g.T.Chars.characters c.args.text.now) c.args.i (c.read_back-back.new.steps - c.args.steps.now) c.requires.some
+          (omega (arith, back.near, back.cost, back.more)));
+      searched = omega (arith, back.more, c.in_default.ensures.cost);
+      none = c.in_default.ensures.found;
+      more = omega (arith, back.more, c.in_default.ensures.more);
+      fit = c.in_default.ensures.fit;
+    }
 
 pub returns-then-anchor-eq0-clause-found : goal.returns-then-anchor-eq0-clause-found
 returns-then-anchor-eq0-clause-found g c =
     start_is_last c.args.table.now c.valid.ensures (g.T.Chars.characters c.args.text.now) c.args.i c.requires.some
-    (subst (λ q. HasNoneBefore c.args.table.now (g.T.Chars.characters c.args.text.now) q c.args.i) c.if-anchor-eq0.true c.in_default.ensures.found)
+    (subst (λ q. HasNoneBefore c.args.table.now (g.T.Chars.characters c.args.text.now) q c.args.i) c.if-anchor-eq0.true c.tries.invariant.none)
 
 pub returns-then-anchor-eq0-clause-cost : goal.returns-then-anchor-eq0-clause-cost
 returns-then-anchor-eq0-clause-cost g c =
     let at = c.tries.invariant in
-    let settled = zero_settles c.args.table.now (g.T.Chars.characters c.args.text.now) c.args.i c.tries.anchor c.if-anchor-eq0.true in
-    let most = tried_last c.args.table.now c.valid.ensures (g.T.Chars.characters c.args.text.now) c.args.i c.tries.anchor (c.tries.steps - c.args.steps.now)
-    c.requires.some at.tried settled (c.search_from.new.steps - c.args.steps.now)
-    (omega (arith, at.more, c.search_from.ensures.cost)) in
-    omega (arith, most, at.more, c.search_from.ensures.more)
+    let most = tried_last c.args.table.now c.valid.ensures (g.T.Chars.characters c.args.text.now) c.args.i c.tries.anchor at.before at.tried
+    (c.tries.steps - c.args.steps.now) (omega (arith, at.searched, at.more)) in
+    omega (arith, most, at.more)
+
+-- the next try, after a walk from the one before it
+tried_on : (table : Table) (valid : IsValidTable table) (x : List ℕ) (i q before start now : ℕ) → Tried table x i q before → q ≢ 0 → HasNoneBefore table x q i →
+    start ≤ now → now ≤ start + before + searches_cost table x q (i - 1) → (high next now' : ℕ) → high ≡ 2 * q + 1 - i → next ≡ max 0 (anchor_below table x high) →
+    now ≤ now' → now' + next ≤ now + high + 1 → (high ≤ 0 + 1 → now' ≡ now) → Tried table x i next (now' - start)
+tried_on table valid x i q before start now tried other none more searched high next now' high_is is rises read nothing =
+    let same = walked table x high (2 * q + 1 - i) next high_is is in
+    subst (λ p. Tried table x i p (now' - start)) same
+    (tried_next table valid x i q before tried other (none_settles table x i q other none) (now - start) (now' - start)
+    (omega arith) (omega (arith, same)) (λ near. omega (arith, nothing (omega arith))))
+
+pub search_from-requires-clause-anchor : goal.search_from-requires-clause-anchor
+search_from-requires-clause-anchor g c =
+    let at = c.tries.invariant in
+    let walk = c.anchor_before-anchor.ensures in
+    (tried_on c.args.table.now c.valid.ensures (g.T.Chars.characters c.args.text.now) c.args.i c.tries.anchor at.before c.args.steps.now c.tries.steps at.tried c.if-anchor-eq0.false at.none at.more at.searched
+    c.saturating_sub.result c.anchor_before-anchor.result c.anchor_before-anchor.new.steps c.saturating_sub.ensures walk.anchor walk.more walk.read
+    walk.nothing).anchor
+
+pub returns-in-Some-search_from-clause-cost : goal.returns-in-Some-search_from-clause-cost
+returns-in-Some-search_from-clause-cost g c =
+    let at = c.tries.invariant in
+    let walk = c.anchor_before-anchor.ensures in
+    let tried = tried_on c.args.table.now c.valid.ensures (g.T.Chars.characters c.args.text.now) c.args.i c.tries.anchor at.before c.args.steps.now c.tries.steps at.tried c.if-anchor-eq0.false at.none at.more
+    at.searched c.saturating_sub.result c.anchor_before-anchor.result c.anchor_before-anchor.new.steps c.saturating_sub.ensures walk.anchor walk.more walk.read
+    walk.nothing in
+    let most = tried_last c.args.table.now c.valid.ensures (g.T.Chars.characters c.args.text.now) c.args.i c.anchor_before-anchor.result
+    (c.anchor_before-anchor.new.steps - c.args.steps.now) tried (c.search_from.new.steps - c.args.steps.now)
+    (omega (arith, at.more, walk.more, c.search_from.ensures.cost)) in
+    omega (arith, most, at.more, walk.more, c.search_from.ensures.more)
 
 pub tries-preserved : goal.tries-preserved
 tries-preserved g c =
     let at = c.tries.invariant in
-    let other : c.tries.anchor ≢ 0 = c.if-anchor-eq0.false in
-    let high : c.saturating_sub-in-tries.result ≡ 2 * c.tries.anchor + 1 - c.args.i = c.saturating_sub-in-tries.ensures in
-    let is = walked c.args.table.now (g.T.Chars.characters c.args.text.now) c.saturating_sub-in-tries.result (2 * c.tries.anchor + 1 - c.args.i)
-    c.anchor_before-anchor-in-tries.result high c.anchor_before-anchor-in-tries.ensures.anchor in
-    let fails = none_settles c.args.table.now (g.T.Chars.characters c.args.text.now) c.args.i c.tries.anchor other c.in_default.ensures.found in
+    let walk = c.anchor_before-anchor.ensures in
     record {
-      tried = subst (λ q. Tried c.args.table.now (g.T.Chars.characters c.args.text.now) c.args.i q (c.anchor_before-anchor-in-tries.new.steps -
-          c.args.steps.now)) is
-          (tried_next c.args.table.now c.valid.ensures (g.T.Chars.characters c.args.text.now) c.args.i c.tries.anchor (c.tries.steps - c.args.steps.now)
-          at.tried other fails
-          (c.search_from.new.steps - c.args.steps.now) (c.anchor_before-anchor-in-tries.new.steps - c.args.steps.now)
-          (omega (arith, at.more, c.search_from.ensures.cost, c.search_from.ensures.more))
-          (omega (
-            arith,
-            at.more,
-            is,
-            high,
-            c.search_from.ensures.more,
-            c.anchor_before-anchor-in-tries.ensures.read,
-            c.anchor_before-anchor-in-tries.ensures.more,
-          ))
-          (λ near. omega (arith, c.anchor_before-anchor-in-tries.ensures.nothing (omega (arith, near, high)))));
-      more = omega (arith, at.more, c.search_from.ensures.more, c.anchor_before-anchor-in-tries.ensures.more);
+      before = c.anchor_before-anchor.new.steps - c.args.steps.now;
+      tried = tried_on c.args.table.now c.valid.ensures (g.T.Chars.characters c.args.text.now) c.args.i c.tries.anchor at.before c.args.steps.now c.tries.steps at.tried c.if-anchor-eq0.false at.none at.more
+          at.searched c.saturating_sub.result c.anchor_before-anchor.result c.anchor_before-anchor.new.steps c.saturating_sub.ensures walk.anchor walk.more
+          walk.read walk.nothing;
+      searched = omega (arith, at.more, walk.more, c.search_from.ensures.cost);
+      none = c.in_default-search_from.ensures.found;
+      more = omega (arith, at.more, walk.more, c.search_from.ensures.more);
       fit = c.search_from.ensures.fit ∙ at.fit;
     }

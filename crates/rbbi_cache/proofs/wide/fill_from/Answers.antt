@@ -1,4 +1,4 @@
-use Rattle.std.proofs.Common.{refl, ap, ◌∙◌, sym, subst, ⊎_elim, ◌<◌, arith}
+use Rattle.std.proofs.Common.{refl, ap, ◌∙◌, sym, subst, ⊎_elim, arith}
 use Rattle.rbbi_model.specs.Runs.{Entry}
 use Rattle.rbbi_model.proofs.Found.{found_lies}
 use Rattle.rbbi_cache.proofs.Filling.{Fills, fills_first, fills_found, fills_skipped, fills_past}
