@@ -17,6 +17,7 @@ mod lists;
 mod moves;
 mod parts;
 mod ranges;
+mod read_search;
 mod rows;
 mod safe;
 mod search;
