@@ -13,4 +13,5 @@ pub mod ShortLemmas
 pub mod SearchLemmas
 pub mod StepLemmas
 pub mod ShortSearchLemmas
+pub mod ReadLemmas
 pub mod PartLemmas

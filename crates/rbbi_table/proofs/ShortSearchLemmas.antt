@@ -357,6 +357,20 @@ module _ {table : Table} {numbers kept moves near : List ℕ} (keeps : IsShortKe
     ended = ends_now table x s end onward;
   }
 
+  -- what ended last, after a character at which no rule ends
+  pub plain_ended : (last next end end_row : ℕ) → IsMoveTo table x s (suc last) next → next % 4 ≡ 3 → IsShortEnd table x s last end end_row →
+      IsShortEnd table x s (suc last) end end_row
+  plain_ended last next end end_row move kind ended =
+      let fails : ends_at table x s (suc last) ≡ false = and_not (ltb s (suc last)) (eqb (accept_of table (row_at table x s (suc last))) 1)
+      (unended last next move kind) in
+      let same : greatest_below (ends_at table x s) (suc (suc last)) ≡ greatest_below (ends_at table x s) (suc last) =
+      cond-false (ends_at table x s (suc last)) (Some (suc last)) (greatest_below (ends_at table x s) (suc last)) fails in
+      ⊎_elim (λ none. inl (none.0, none.1, same ∙ none.2)) (λ some. inr (some.0, some.1, same ∙ some.2)) ended
+    where
+      and_not : (a b : Bool) → b ≡ false → (a && b) ≡ false
+      and_not true b is = is
+      and_not false b is = refl
+
   -- the turn after a character at which no rule ends
   pub turn_on : (last next next' end end_row : ℕ) → IsTurn table x s last next end end_row → next % 4 ≡ 3 → next ≢ 3 → suc last < length x →
       IsMoveTo table x s (suc (suc last)) next' → IsTurn table x s (suc last) next' end end_row
@@ -365,17 +379,8 @@ module _ {table : Table} {numbers kept moves near : List ℕ} (keeps : IsShortKe
     to = short;
     going = going_on last next end end_row turn kind other;
     move = move;
-    ended =
-        let fails : ends_at table x s (suc last) ≡ false = and_not (ltb s (suc last)) (eqb (accept_of table (row_at table x s (suc last))) 1)
-        (unended last next turn.move kind) in
-        let same : greatest_below (ends_at table x s) (suc (suc last)) ≡ greatest_below (ends_at table x s) (suc last) =
-        cond-false (ends_at table x s (suc last)) (Some (suc last)) (greatest_below (ends_at table x s) (suc last)) fails in
-        ⊎_elim (λ none. inl (none.0, none.1, same ∙ none.2)) (λ some. inr (some.0, some.1, same ∙ some.2)) turn.ended;
+    ended = plain_ended last next end end_row turn.move kind turn.ended;
   }
-    where
-      and_not : (a b : Bool) → b ≡ false → (a && b) ≡ false
-      and_not true b is = is
-      and_not false b is = refl
 
   pub begins_at : row_at table x s s ≡ 1
   begins_at = ap (λ n. row_along table 1 (map (category_of table.ranges) (take n (drop s x)))) (let e : s - s ≡ 0 = omega arith in e)

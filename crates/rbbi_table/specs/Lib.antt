@@ -7,4 +7,5 @@ pub mod Blocks
 pub mod Kept
 pub mod Kinds
 pub mod Short
+pub mod Reading
 pub mod inner

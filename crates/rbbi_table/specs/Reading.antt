@@ -1,8 +1,8 @@
--- Searches over characters that were read before, by their categories.
+-- A search over characters that were read before, by their categories.
 use Rattle.std.specs.Prelude.{◌≡◌, ℕ, ◌+◌, ◌<◌, ◌≤◌, List, length, slice_index}
 use Rattle.rbbi_model.specs.Tables.{Table}
-use Rattle.rbbi_model.specs.Searches.{found, look_end}
 use Rattle.rbbi_model.specs.Runs.{category_at}
+use Rattle.rbbi_model.specs.Searches.{found, look_end}
 
 -- the numbers are the categories of the characters of the text from a place on
 pub record AreRead (table : Table) (x : List ℕ) (from : ℕ) (categories : List ℕ) : Type 0 where

@@ -19,13 +19,13 @@ use rbbi_text::{Chars, Steps};
 use std::sync::ledger::Ledger;
 
 /// How many kinds of moves there are.
-const KINDS: u16 = 4;
+pub(crate) const KINDS: u16 = 4;
 
 /// The kind of a move to a row at which no rule ends, as `kinds::OTHER`.
-const OTHER: u16 = 3;
+pub(crate) const OTHER: u16 = 3;
 
 /// The move to row 0, at which a search ends: its place is 0.
-const STOP: u16 = OTHER;
+pub(crate) const STOP: u16 = OTHER;
 
 /// The place of a character's move after the beginning of a row.
 #[inline(always)]
