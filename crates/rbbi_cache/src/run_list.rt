@@ -13,7 +13,6 @@ ghost use Rattle.rbbi_cache.specs.inner.Ready.{GoesOnAt, KeepsTrue};
 ghost use Rattle.rbbi_cache.specs.Shown.{IsShownAfter};
 
 use crate::extended::find_extended;
-use crate::fixed::Fixed;
 use crate::runs::{MOST_RUNS, put_first, to_front};
 use crate::search::{go_on, step};
 use crate::{Entry, Run};
@@ -21,14 +20,14 @@ use rbbi_table::{FrontPlaces, Table};
 use rbbi_text::{Chars, Steps};
 use std::alloc::{AllocError, Global};
 use std::marker::Model;
-use std::mem;
 use std::sync::ledger::Ledger;
+use std::{array, mem};
 
 /// A list of at most 16 runs, the most recently used first. It takes no memory after it was made.
 #[derive(Debug, Drop)]
 pub(crate) struct RunList {
     /// Room for 16 runs, of which the first ones are the list.
-    pub(crate) slots: Fixed<Run>,
+    pub(crate) slots: [Run; MOST_RUNS],
     pub(crate) count: usize,
 }
 
@@ -38,9 +37,9 @@ impl Model for RunList {
 
     ghost Value = { List Run };
 
-    ghost view = { λ list. take list.count list.slots.items.items };
+    ghost view = { λ list. take list.count list.slots };
 
-    ghost invariant = { λ list. (list.count ≤ 16) × (length list.slots.items.items ≡ 16) };
+    ghost invariant = { λ list. (list.count ≤ 16) × (length list.slots ≡ 16) };
 }
 
 impl RunList {
@@ -48,14 +47,8 @@ impl RunList {
     pub(crate) fn empty(alloc: Global) -> Result<RunList, AllocError>
         ensures { IfOk result (λ list. list ≡ []) }
     {
-        let mut slots = Vec::with_capacity(alloc, MOST_RUNS)?;
-        for _ in 0..MOST_RUNS {
-            slots.push(Run::empty(alloc)?)?;
-        }
-        Ok(RunList {
-            slots: Fixed::new(slots),
-            count: 0,
-        })
+        let slots = array::try_from_fn(|_| Run::empty(alloc))?;
+        Ok(RunList { slots, count: 0 })
     }
 
     /// The runs.
@@ -63,7 +56,7 @@ impl RunList {
         ensures runs { result.now ≡ self.now }
         ensures few { length result.now ≤ 16 }
     {
-        &self.slots.as_slice()[..self.count]
+        &self.slots[..self.count]
     }
 
     /// Moves a run to the front. The runs before it go back by one.
@@ -73,7 +66,7 @@ impl RunList {
             self.old ≡ before ++ run ∷ after → length before ≡ k →
             self.new ≡ run ∷ (before ++ after) }
     {
-        to_front(self.slots.as_mut_slice(), k);
+        to_front(&mut self.slots, k);
     }
 
     /// Puts a new run first, in place of one that it extends, or of the last of 16. The slot that
@@ -86,7 +79,7 @@ impl RunList {
             self.replace(k, run);
             return;
         }
-        self.count = put_first(self.slots.as_mut_slice(), self.count, run);
+        self.count = put_first(&mut self.slots, self.count, run);
     }
 
     /// Puts a new run before the others, in place of the one with this number.
@@ -96,8 +89,8 @@ impl RunList {
             self.old ≡ before ++ former ∷ after → length before ≡ k →
             self.new ≡ run.old ∷ (before ++ after) }
     {
-        let slot = self.slots.item_mut(k);
-        mem::swap(slot, run);
+        let slots = &mut self.slots[..];
+        mem::swap(&mut slots[k], run);
         self.move_to_front(k);
     }
 
@@ -130,7 +123,7 @@ impl RunList {
         if self.count == 0 {
             return None;
         }
-        let run = self.slots.item_mut(0);
+        let run = &mut self.slots[0];
         step(table, text, i, run, marks, steps)
     }
 
@@ -161,7 +154,7 @@ impl RunList {
             (anchor_below table.now (T.characters text.now) i) i }
         ensures fit { marks.new ≡ marks.old }
     {
-        let run = self.slots.item_mut(k);
-        go_on(table, text, i, run, from, spare, marks, steps)
+        let slots = &mut self.slots[..];
+        go_on(table, text, i, &mut slots[k], from, spare, marks, steps)
     }
 }
