@@ -6,7 +6,7 @@ ghost use Rattle.rbbi_model.specs.Lists.{IsRising};
 ghost use Rattle.rbbi_model.specs.Words.{most_characters};
 ghost use Rattle.rbbi_model.specs.Runs as model;
 ghost use Rattle.rbbi_model.specs.Costs.{anchor_below, searches_cost};
-ghost use Rattle.rbbi_cache.specs.Kept.{AreTrueRuns};
+ghost use Rattle.rbbi_cache.specs.Kept.{AreTrueRuns, NoneIsExtended};
 ghost use Rattle.rbbi_cache.specs.inner.Kept.{IsPutFirst};
 ghost use Rattle.rbbi_cache.specs.inner.Lists.{HasAt, GoesOnFrom};
 ghost use Rattle.rbbi_cache.specs.inner.Ready.{GoesOnAt, KeepsTrue};
@@ -75,7 +75,19 @@ impl RunList {
         requires { IsRising (map (λ entry. entry.at) run.old.entries) }
         ensures { IsPutFirst run.old self.old self.new }
     {
-        if let Some(k) = find_extended(self.as_slice(), run) {
+        let count = self.count;
+        self.add_compared(run, count);
+    }
+
+    /// As `add`. It extends none of the runs but the first so many, and only these are compared.
+    pub(crate) fn add_compared(&mut self, run: &mut Run, count: usize)
+        requires rising { IsRising (map (λ entry. entry.at) run.old.entries) }
+        requires count { count ≤ length self.old }
+        requires others { NoneIsExtended run.old (drop count self.old) }
+        ensures { IsPutFirst run.old self.old self.new }
+    {
+        let runs = self.as_slice();
+        if let Some(k) = find_extended(&runs[..count], run) {
             self.replace(k, run);
             return;
         }
