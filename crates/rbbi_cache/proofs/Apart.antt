@@ -1,21 +1,23 @@
 -- Runs that lie on one side of a place.
-use Rattle.std.proofs.Common.{◌≡◌, ℕ, ◌<◌, ◌≤◌, ◌-◌, List, [], ◌∷◌, length, take, drop, get_or, map, sym, subst, inl, inr, ⊎_elim, arith}
+use Rattle.std.proofs.Common.{◌≡◌, ℕ, ◌<◌, ◌≤◌, ◌-◌, ◌⊎◌, List, [], ◌∷◌, length, take, drop, get_or, map, sym, subst, inl, inr, ⊎_elim, arith}
 use Rattle.std.specs.Prelude.{Option, Some, None, MatchOption}
 use Rattle.std.specs.List.{AllByRecursion}
 use Rattle.std.proofs.lemmas.List.{take-append-drop, take_all}
+use Rattle.std.proofs.lemmas.List.Elements.{All-from_recursion, All-contains}
 use Rattle.rbbi_model.specs.Lists.{IsRising}
 use Rattle.rbbi_model.specs.Runs.{Entry, Run, StartsFrom, ShowsBefore}
 use Rattle.rbbi_model.proofs.Lists.{all_append, all_right, all_through}
 use Rattle.rbbi_cache.specs.declared.runs.Shown.{Shown}
+use Rattle.rbbi_cache.specs.Kept.{AreAmong, NoneIsExtended}
 use Rattle.rbbi_cache.specs.Shown.{IsShownBefore}
 use Rattle.rbbi_cache.specs.inner.Lists.{HasAt}
 use Rattle.rbbi_cache.specs.inner.Kept.{IsPutFirst}
-use Rattle.rbbi_cache.specs.inner.Quiet.{IsApart, AreApart}
+use Rattle.rbbi_cache.specs.inner.Quiet.{IsApart, AreApart, LiesBetween}
 use Rattle.rbbi_cache.proofs.Lists.{everywhere}
 use Rattle.rbbi_cache.proofs.PutFirst.{all_of_left}
 use Rattle.rbbi_cache.proofs.Quieting.{has_of_all}
 use Rattle.rbbi_cache.proofs.RunFacts.{rises_past}
-use Rattle.rbbi_cache.proofs.Showing.{all_up_to}
+use Rattle.rbbi_cache.proofs.Showing.{all_past, all_up_to}
 
 -- all entries lie from 0 on
 pub from_start : (from to : ℕ) (run : Run) → to ≡ 0 → IsApart from to run
@@ -101,3 +103,33 @@ pub added_apart : (from to : ℕ) (run : Run) (former now : List Run) → AllByR
     AreApart from to now
 added_apart from to run former now all put =
     subst (AreApart from to) (sym put.are) (all_of_left (IsApart from to) run former put.rest put.left all)
+
+-- entries that rise lie between the places where the first and the last of them do
+pub all_between : (entries : List Entry) (from to : ℕ) (d d' : Entry) → IsRising (map (λ e. e.at) entries) → from < (get_or entries 0 d).at →
+    (get_or entries (length entries - 1) d').at < to → AllByRecursion (λ e. from < e.at) entries × AllByRecursion (λ e. e.at < to) entries
+all_between [] from to d d' rising low high = (tt, tt)
+all_between (e ∷ entries) from to d d' rising low high =
+    let up = all_up_to (e ∷ entries) (to - 1) d' rising (omega arith) (omega (arith, high)) in (
+      (all_past (e ∷ entries) from d rising (omega arith) low).past,
+      all_through (λ f. f.at ≤ to - 1) (λ f. f.at < to) (λ f less. omega (arith, less, high)) (e ∷ entries)
+          (subst (AllByRecursion (λ f. f.at ≤ to - 1)) (take_all (length (e ∷ entries)) (e ∷ entries) (omega arith)) up.up_to),
+    )
+
+module _ (from to : ℕ) (run : Run) (between : LiesBetween from to run) where
+  -- then none of the entries of a run that lies on one side is among them
+  none_among : (entries : List Entry) → 0 < length entries → AllByRecursion (λ e. e.at ≤ from) entries ⊎ AllByRecursion (λ e. to ≤ e.at) entries →
+      AreAmong entries run.entries → ⊥
+  none_among [] some apart among = omega arith
+  none_among (e ∷ entries) some apart among =
+      let past : from < e.at = All-contains (λ f. from < f.at) run.entries e (All-from_recursion (λ f. from < f.at) run.entries between.0) among.0 in
+      let short_of : e.at < to = All-contains (λ f. f.at < to) run.entries e (All-from_recursion (λ f. f.at < to) run.entries between.1) among.0 in
+      ⊎_elim (λ low. omega (arith, low.0)) (λ high. omega (arith, high.0)) apart
+
+  none_of_others : (runs : List Run) → AllByRecursion (λ r. 0 < length r.entries) runs → AllByRecursion (IsApart from to) runs → NoneIsExtended run runs
+  none_of_others [] some apart = tt
+  none_of_others (r ∷ runs) some apart = (λ is. none_among r.entries some.0 apart.0 is.entries, none_of_others runs some.1 apart.1)
+
+  -- so the run extends no other than the first
+  pub none_extended : (runs : List Run) → AllByRecursion (λ r. 0 < length r.entries) runs → AreApart from to runs → NoneIsExtended run (drop 1 runs)
+  none_extended [] some apart = tt
+  none_extended (first ∷ runs) some apart = none_of_others runs some.1 apart

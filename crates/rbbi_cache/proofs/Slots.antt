@@ -11,10 +11,6 @@ use Rattle.rbbi_model.specs.Runs.{Run}
 pub first_of_joined : (xs rest : List Run) (count : ℕ) → length xs ≡ count → take count (xs ++ rest) ≡ xs
 first_of_joined xs rest count is = ap (λ n. take n (xs ++ rest)) (sym is) ∙ take-append_seam xs rest
 
--- what is written over all slots stands in them
-pub refilled : (ws items : List Run) (len : ℕ) → len ≡ length items → length ws ≡ length items → take len (ws ++ drop (length ws) items) ≡ ws
-refilled ws items len is same = first_of_joined ws (drop (length ws) items) len (same ∙ sym is)
-
 module _ (items : List Run) (count : ℕ) (within : count ≤ length items) (now before : List Run) (run : Run) (after : List Run) (view : take count items ≡ now)
     (whole : now ≡ before ++ run ∷ after) where
   pub count_is : count ≡ length before + (length after + 1)
@@ -49,11 +45,10 @@ module _ (items : List Run) (count : ℕ) (within : count ≤ length items) (now
         at_seam (r ∷ front) = at_seam front
 
 -- the first slot has the first run
-pub first_is : (items : List Run) (count : ℕ) → count ≢ 0 → count ≤ length items → (run : Run) → run ≡ get_or items 0 run → (rest : List Run) × (take count items
-    ≡ run ∷ rest)
-first_is [] count some within run is = absurd (some (omega arith))
-first_is (r ∷ items) zero some within run is = absurd (some refl)
-first_is (r ∷ items) (suc n) some within run is = (take n items, ap (λ s. s ∷ take n items) (sym is))
+pub first_is : (items : List Run) (count : ℕ) → count ≢ 0 → count ≤ length items → (d : Run) → (rest : List Run) × (take count items ≡ get_or items 0 d ∷ rest)
+first_is [] count some within d = absurd (some (omega arith))
+first_is (r ∷ items) zero some within d = absurd (some refl)
+first_is (r ∷ items) (suc n) some within d = (take n items, refl)
 
 -- a new run stands before the first 15 of the others
 pub added_is : (items : List Run) (count : ℕ) → length items ≡ 16 → count ≤ 16 → (now slots : List Run) (run : Run) (kept : ℕ) → take count items ≡ now → take

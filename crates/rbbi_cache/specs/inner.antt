@@ -8,4 +8,3 @@ pub mod Shown
 pub mod Lists
 pub mod Ready
 pub mod Quiet
-pub mod Fixed

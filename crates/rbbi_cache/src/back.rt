@@ -1,11 +1,12 @@
 //! The last boundary before a place: whether a kept run shows it, and else the search for it.
-ghost use Rattle.std.specs.Prelude.{◌≡◌, ℕ, ◌+◌, ◌<◌, ◌≤◌, length, map, MatchOption, List};
+ghost use Rattle.std.specs.Prelude.{◌≡◌, ℕ, ◌+◌, ◌<◌, ◌≤◌, length, map, drop, MatchOption};
+ghost use Rattle.std.specs.Prelude.{List};
 ghost use Rattle.std.specs.List.{AllByRecursion};
 ghost use Rattle.rbbi_model.specs.Lists.{IsRising};
 ghost use Rattle.rbbi_model.specs.Words.{most_characters};
 ghost use Rattle.rbbi_model.specs.Costs.{back_cost};
 ghost use Rattle.rbbi_model.specs.Runs.{ShowsBefore};
-ghost use Rattle.rbbi_cache.specs.Kept.{AreTrueRuns, IsLastBefore, KeepsBack};
+ghost use Rattle.rbbi_cache.specs.Kept.{AreTrueRuns, IsLastBefore, KeepsBack, NoneIsExtended};
 ghost use Rattle.rbbi_cache.specs.Shown.{IsShownBefore};
 ghost use Rattle.rbbi_cache.specs.inner.Lists.{IsOrdered, HasAt};
 ghost use Rattle.rbbi_cache.specs.inner.Quiet.{IsApart};
@@ -14,7 +15,7 @@ ghost use Rattle.rbbi_cache.specs.inner.Ready.{IsFloorFor};
 use crate::cache::START;
 use crate::runs::{Shown, apart_around, find_before};
 use crate::search_back::search_back;
-use crate::{Cache, Entry};
+use crate::{Cache, Entry, Run};
 use rbbi_table::Table;
 use rbbi_text::{Chars, Near, Steps};
 use std::sync::ledger::Ledger;
@@ -57,6 +58,21 @@ impl Cache {
             Some(run) => run.floor_before(i),
             None => i,
         }
+    }
+
+    /// How many runs from the first one on a new run may extend. If it lies between two places
+    /// where the others have no entry, that is only the first.
+    fn count_extendable(&self, run: &Run) -> usize
+        requires rising { IsRising (map (λ entry. entry.at) run.now.entries) }
+        requires some { AllByRecursion (λ former. 0 < length former.entries) self.now.runs }
+        ensures most { result ≤ length self.now.runs }
+        ensures others { NoneIsExtended run.now (drop result self.now.runs) }
+    {
+        let runs = self.runs.as_slice();
+        if run.lies_between(self.apart_from, self.apart_to) && !runs.is_empty() {
+            return 1;
+        }
+        runs.len()
     }
 
     /// Searches for the last boundary before `i`, and keeps what it finds.
@@ -119,11 +135,12 @@ impl Cache {
         ) else {
             return START;
         };
+        let count = self.count_extendable(&self.spare);
         let (from, to) = self.apart_around(i);
         self.quiet_to = 0;
         self.apart_from = from;
         self.apart_to = to;
-        self.runs.add(&mut self.spare);
+        self.runs.add_compared(&mut self.spare, count);
         entry
     }
 }

@@ -144,9 +144,8 @@ impl RunList {
         ensures read { steps.new ≤ steps.old + 1025 }
     {
         let count = former.count;
-        let slots = former.slots.as_mut_slice();
-        let runs = &mut slots[..count];
-        self.count = keep_edited(table, text, edit, runs, self.slots.as_mut_slice(), steps);
+        let runs = &mut former.slots[..count];
+        self.count = keep_edited(table, text, edit, runs, &mut self.slots, steps);
     }
 }
 

@@ -3,6 +3,7 @@ ghost use Rattle.std.specs.Prelude.{◌≡◌, map, MatchOption, IsTrue, ◌↔�
 ghost use Rattle.rbbi_model.specs.Lists.{IsRising};
 ghost use Rattle.rbbi_cache.specs.Kept.{AreAmong, IsExtendedBy, NoneIsExtended};
 ghost use Rattle.rbbi_cache.specs.inner.Lists.{HasAt};
+ghost use Rattle.rbbi_cache.specs.inner.Quiet.{LiesBetween};
 
 use crate::shown::count_up_to;
 use crate::{Entry, Run};
@@ -49,6 +50,20 @@ impl Run {
             return true;
         }
         self.leads()
+    }
+
+    /// Whether it has entries, and all of them lie past the one place and before the other.
+    pub(crate) fn lies_between(&self, from: u32, to: u32) -> bool
+        requires { IsRising (map (λ entry. entry.at) self.now.entries) }
+        ensures { IsTrue result → LiesBetween from to self.now }
+    {
+        let entries = self.entries();
+        if entries.is_empty() {
+            return false;
+        }
+        let first = entries[0];
+        let last = entries[entries.len() - 1];
+        first.at > from && last.at < to
     }
 }
 

@@ -7,7 +7,6 @@ mod cache;
 mod edited;
 mod entry;
 mod extended;
-mod fixed;
 mod parts;
 mod reading_back;
 mod run;

@@ -5,7 +5,6 @@ ghost use Rattle.rbbi_model.specs.Runs as model;
 ghost use Rattle.rbbi_cache.specs.inner.Pushed.{pushed};
 
 use crate::Entry;
-use crate::fixed::Fixed;
 use std::alloc::{AllocError, Global};
 use std::marker::Model;
 
@@ -15,13 +14,20 @@ pub const MOST_ENTRIES: usize = 256;
 /// How many of the last entries a full run keeps when it goes on.
 const KEPT_ENTRIES: usize = 128;
 
-/// Consecutive boundaries that were found from one anchor, in a list as long as it may get.
+/// What a run has, with room for all the entries that it may get, of which the first ones are its.
 #[derive(Debug, Drop)]
-pub struct Run {
+struct Body {
     anchor: u32,
     leads: bool,
     len: usize,
-    slots: Fixed<Entry>,
+    slots: [Entry; MOST_ENTRIES],
+}
+
+/// Consecutive boundaries that were found from one anchor. What it has stands in a box that is made
+/// once, so that runs change places fast.
+#[derive(Debug, Drop)]
+pub struct Run {
+    body: Box<Body>,
 }
 
 impl Model for Run {
@@ -31,12 +37,12 @@ impl Model for Run {
     ghost Value = { Run };
 
     ghost view = { λ run. record {
-      anchor = run.anchor;
-      entries = take run.len run.slots.items.items;
-      leads = run.leads;
+      anchor = run.body.value.anchor;
+      entries = take run.body.value.len run.body.value.slots;
+      leads = run.body.value.leads;
     } };
 
-    ghost invariant = { λ run. (run.len ≤ 256) × (length run.slots.items.items ≡ 256) };
+    ghost invariant = { λ run. (run.body.value.len ≤ 256) × (length run.body.value.slots ≡ 256) };
 }
 
 impl Run {
@@ -49,12 +55,14 @@ impl Run {
             status: 0,
             reach: 0,
         };
-        let slots = Fixed::new(vec![in alloc; blank; MOST_ENTRIES]?);
-        Ok(Run {
+        let body = Body {
             anchor: 0,
             leads: false,
             len: 0,
-            slots,
+            slots: [blank; MOST_ENTRIES],
+        };
+        Ok(Run {
+            body: Box::new(alloc, body)?,
         })
     }
 
@@ -62,44 +70,46 @@ impl Run {
     pub fn anchor(&self) -> u32
         ensures { result ≡ self.now.anchor }
     {
-        self.anchor
+        self.body.anchor
     }
 
     /// Its entries, in the order of the text.
     pub fn entries(&self) -> &[Entry]
         ensures { result.now ≡ self.now.entries }
     {
-        &self.slots.as_slice()[..self.len]
+        &self.body.slots[..self.body.len]
     }
 
     /// Begins again at an anchor, with no entries.
     pub(crate) fn begin(&mut self, anchor: u32)
         ensures { self.new ≡ record { anchor = anchor; entries = []; leads = true } }
     {
-        self.anchor = anchor;
-        self.leads = true;
-        self.len = 0;
+        let body = &mut *self.body;
+        body.anchor = anchor;
+        body.leads = true;
+        body.len = 0;
     }
 
     /// Adds an entry at the end. A full run first lets go of its first half, and no longer leads.
     pub(crate) fn push(&mut self, entry: Entry)
         ensures { self.new ≡ pushed self.old entry }
     {
-        if self.len == MOST_ENTRIES {
-            self.slots.as_mut_slice().copy_within(KEPT_ENTRIES.., 0);
-            self.len = MOST_ENTRIES - KEPT_ENTRIES;
-            self.leads = false;
+        let body = &mut *self.body;
+        if body.len == MOST_ENTRIES {
+            body.slots.copy_within(KEPT_ENTRIES.., 0);
+            body.len = MOST_ENTRIES - KEPT_ENTRIES;
+            body.leads = false;
         }
-        let len = self.len;
-        *self.slots.item_mut(len) = entry;
-        self.len = len + 1;
+        let len = body.len;
+        body.slots[len] = entry;
+        body.len = len + 1;
     }
 
     /// Whether nothing found from its anchor lies between the low place and the first entry.
     pub(crate) fn leads(&self) -> bool
         ensures { result ≡ self.now.leads }
     {
-        self.leads
+        self.body.leads
     }
 
     /// How many entries it has.
@@ -107,14 +117,14 @@ impl Run {
         ensures exact { result ≡ length self.now.entries }
         ensures most { result ≤ 256 }
     {
-        self.len
+        self.body.len
     }
 
     /// Says that it no longer leads.
     pub(crate) fn follow(&mut self)
         ensures { self.new ≡ record self.old { leads = false } }
     {
-        self.leads = false;
+        self.body.leads = false;
     }
 
     /// Adds entries at the end. There is room for them.
@@ -122,8 +132,10 @@ impl Run {
         requires { length self.old.entries + length entries.now ≤ 256 }
         ensures { self.new ≡ record self.old { entries = self.old.entries ++ entries.now } }
     {
-        let len = self.len;
-        self.slots.as_mut_slice()[len..len + entries.len()].copy_from_slice(entries);
-        self.len += entries.len();
+        let body = &mut *self.body;
+        let len = body.len;
+        let slots = &mut body.slots[..];
+        slots[len..len + entries.len()].copy_from_slice(entries);
+        body.len += entries.len();
     }
 }

@@ -6,14 +6,13 @@ ghost use Rattle.rbbi_model.specs.Lists.{IsRising};
 ghost use Rattle.rbbi_model.specs.Words.{most_characters};
 ghost use Rattle.rbbi_model.specs.Runs as model;
 ghost use Rattle.rbbi_model.specs.Costs.{anchor_below, searches_cost};
-ghost use Rattle.rbbi_cache.specs.Kept.{AreTrueRuns};
+ghost use Rattle.rbbi_cache.specs.Kept.{AreTrueRuns, NoneIsExtended};
 ghost use Rattle.rbbi_cache.specs.inner.Kept.{IsPutFirst};
 ghost use Rattle.rbbi_cache.specs.inner.Lists.{HasAt, GoesOnFrom};
 ghost use Rattle.rbbi_cache.specs.inner.Ready.{GoesOnAt, KeepsTrue};
 ghost use Rattle.rbbi_cache.specs.Shown.{IsShownAfter};
 
 use crate::extended::find_extended;
-use crate::fixed::Fixed;
 use crate::runs::{MOST_RUNS, put_first, to_front};
 use crate::search::{go_on, step};
 use crate::{Entry, Run};
@@ -21,14 +20,14 @@ use rbbi_table::{FrontPlaces, Table};
 use rbbi_text::{Chars, Steps};
 use std::alloc::{AllocError, Global};
 use std::marker::Model;
-use std::mem;
 use std::sync::ledger::Ledger;
+use std::{array, mem};
 
 /// A list of at most 16 runs, the most recently used first. It takes no memory after it was made.
 #[derive(Debug, Drop)]
 pub(crate) struct RunList {
     /// Room for 16 runs, of which the first ones are the list.
-    pub(crate) slots: Fixed<Run>,
+    pub(crate) slots: [Run; MOST_RUNS],
     pub(crate) count: usize,
 }
 
@@ -38,9 +37,9 @@ impl Model for RunList {
 
     ghost Value = { List Run };
 
-    ghost view = { λ list. take list.count list.slots.items.items };
+    ghost view = { λ list. take list.count list.slots };
 
-    ghost invariant = { λ list. (list.count ≤ 16) × (length list.slots.items.items ≡ 16) };
+    ghost invariant = { λ list. (list.count ≤ 16) × (length list.slots ≡ 16) };
 }
 
 impl RunList {
@@ -48,14 +47,8 @@ impl RunList {
     pub(crate) fn empty(alloc: Global) -> Result<RunList, AllocError>
         ensures { IfOk result (λ list. list ≡ []) }
     {
-        let mut slots = Vec::with_capacity(alloc, MOST_RUNS)?;
-        for _ in 0..MOST_RUNS {
-            slots.push(Run::empty(alloc)?)?;
-        }
-        Ok(RunList {
-            slots: Fixed::new(slots),
-            count: 0,
-        })
+        let slots = array::try_from_fn(|_| Run::empty(alloc))?;
+        Ok(RunList { slots, count: 0 })
     }
 
     /// The runs.
@@ -63,7 +56,7 @@ impl RunList {
         ensures runs { result.now ≡ self.now }
         ensures few { length result.now ≤ 16 }
     {
-        &self.slots.as_slice()[..self.count]
+        &self.slots[..self.count]
     }
 
     /// Moves a run to the front. The runs before it go back by one.
@@ -73,7 +66,7 @@ impl RunList {
             self.old ≡ before ++ run ∷ after → length before ≡ k →
             self.new ≡ run ∷ (before ++ after) }
     {
-        to_front(self.slots.as_mut_slice(), k);
+        to_front(&mut self.slots, k);
     }
 
     /// Puts a new run first, in place of one that it extends, or of the last of 16. The slot that
@@ -82,11 +75,23 @@ impl RunList {
         requires { IsRising (map (λ entry. entry.at) run.old.entries) }
         ensures { IsPutFirst run.old self.old self.new }
     {
-        if let Some(k) = find_extended(self.as_slice(), run) {
+        let count = self.count;
+        self.add_compared(run, count);
+    }
+
+    /// As `add`. It extends none of the runs but the first so many, and only these are compared.
+    pub(crate) fn add_compared(&mut self, run: &mut Run, count: usize)
+        requires rising { IsRising (map (λ entry. entry.at) run.old.entries) }
+        requires count { count ≤ length self.old }
+        requires others { NoneIsExtended run.old (drop count self.old) }
+        ensures { IsPutFirst run.old self.old self.new }
+    {
+        let runs = self.as_slice();
+        if let Some(k) = find_extended(&runs[..count], run) {
             self.replace(k, run);
             return;
         }
-        self.count = put_first(self.slots.as_mut_slice(), self.count, run);
+        self.count = put_first(&mut self.slots, self.count, run);
     }
 
     /// Puts a new run before the others, in place of the one with this number.
@@ -96,8 +101,8 @@ impl RunList {
             self.old ≡ before ++ former ∷ after → length before ≡ k →
             self.new ≡ run.old ∷ (before ++ after) }
     {
-        let slot = self.slots.item_mut(k);
-        mem::swap(slot, run);
+        let slots = &mut self.slots[..];
+        mem::swap(&mut slots[k], run);
         self.move_to_front(k);
     }
 
@@ -130,7 +135,7 @@ impl RunList {
         if self.count == 0 {
             return None;
         }
-        let run = self.slots.item_mut(0);
+        let run = &mut self.slots[0];
         step(table, text, i, run, marks, steps)
     }
 
@@ -161,7 +166,7 @@ impl RunList {
             (anchor_below table.now (T.characters text.now) i) i }
         ensures fit { marks.new ≡ marks.old }
     {
-        let run = self.slots.item_mut(k);
-        go_on(table, text, i, run, from, spare, marks, steps)
+        let slots = &mut self.slots[..];
+        go_on(table, text, i, &mut slots[k], from, spare, marks, steps)
     }
 }

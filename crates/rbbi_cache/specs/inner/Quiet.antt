@@ -18,3 +18,7 @@ IsApart from to run = AllByRecursion (λ entry. entry.at ≤ from) run.entries �
 -- so do those of each run but the first
 abbrev pub AreApart : ℕ → ℕ → List Run → Type 0
 AreApart from to runs = AllByRecursion (IsApart from to) (drop 1 runs)
+
+-- the run's entries lie past the one place and before the other
+abbrev pub LiesBetween : ℕ → ℕ → Run → Type 0
+LiesBetween from to run = AllByRecursion (λ entry. from < entry.at) run.entries × AllByRecursion (λ entry. entry.at < to) run.entries

@@ -1,4 +1,4 @@
-use Rattle.std.proofs.Common.{[], map, inl, refl, sym, subst}
+use Rattle.std.proofs.Common.{◌<◌, [], length, map, inl, refl, sym, subst, arith}
 use Rattle.rbbi_model.specs.Lists.{IsRising}
 use Rattle.rbbi_model.specs.Runs.{IsTrueRun}
 use Rattle.rbbi_model.proofs.Lists.{all_through}
@@ -17,15 +17,26 @@ apart_around-from-requires g c =
     (entries_rise c.args.table.now c.valid.ensures (g.T.Chars.characters c.args.text.now)) c.self.inside.runs
     (subst (λ (s : KeptRuns). AreTrueRuns c.args.table.now (g.T.Chars.characters c.args.text.now) s.runs) (sym c.self.view_is) c.requires.are_true)
 
-pub invariant_of-self-3 : goal.invariant_of-self-3
-invariant_of-self-3 g c = (
+pub invariant_of-self-4 : goal.invariant_of-self-4
+invariant_of-self-4 g c = (
   none_quiet _ 0 _ refl,
-  added_apart c.apart_around-from.result.0 c.apart_around-from.result.1 c.search_back.new.run c.self.inside.runs c.add.new.self c.apart_around-from.ensures
-      c.add.ensures,
+  added_apart c.apart_around-from.result.0 c.apart_around-from.result.1 c.search_back.new.run c.self.inside.runs c.add_compared.new.self c.apart_around-from.ensures
+      c.add_compared.ensures,
 )
 
-pub add-requires : goal.add-requires
-add-requires g c =
+pub count_extendable-count-requires-clause-rising : goal.count_extendable-count-requires-clause-rising
+count_extendable-count-requires-clause-rising g c =
+    let ready = c.in-Some.ensures.found [] in
+    entries_rise c.args.table.now c.valid.ensures (g.T.Chars.characters c.args.text.now) c.search_back.new.run ready.is_true
+
+pub count_extendable-count-requires-clause-some : goal.count_extendable-count-requires-clause-some
+count_extendable-count-requires-clause-some g c =
+    all_through (IsTrueRun c.args.table.now (g.T.Chars.characters c.args.text.now)) (λ r. 0 < length r.entries) (λ r is. omega (arith, is.some))
+    c.self.inside.runs
+    (subst (λ (s : KeptRuns). AreTrueRuns c.args.table.now (g.T.Chars.characters c.args.text.now) s.runs) (sym c.self.view_is) c.requires.are_true)
+
+pub add_compared-requires-clause-rising : goal.add_compared-requires-clause-rising
+add_compared-requires-clause-rising g c =
     let ready = c.in-Some.ensures.found [] in
     entries_rise c.args.table.now c.valid.ensures (g.T.Chars.characters c.args.text.now) c.search_back.new.run ready.is_true
 
@@ -39,11 +50,11 @@ pub returns-clause-kept : goal.returns-clause-kept
 returns-clause-kept g c =
     let ready = c.in-Some.ensures.found c.self.inside.runs in
     inl (subst (λ (s : KeptRuns). Keeps c.args.table.now (g.T.Chars.characters c.args.text.now) (λ r. IsShownBefore (g.T.Chars.characters c.args.text.now) r
-    c.args.i c.in-Some.entry) s.runs c.add.new.self) c.self.view_is
+    c.args.i c.in-Some.entry) s.runs c.add_compared.new.self) c.self.view_is
     (keeps_added c.args.table.now c.valid.ensures (g.T.Chars.characters c.args.text.now) (λ r. IsShownBefore (g.T.Chars.characters c.args.text.now) r c.args.i
     c.in-Some.entry) c.self.inside.runs
     (subst (λ (s : KeptRuns). AreTrueRuns c.args.table.now (g.T.Chars.characters c.args.text.now) s.runs) (sym c.self.view_is) c.requires.are_true)
-    c.search_back.new.run ready.is_true ready.shows ready.reaches c.add.new.self c.add.ensures).0)
+    c.search_back.new.run ready.is_true ready.shows ready.reaches c.add_compared.new.self c.add_compared.ensures).0)
 
 pub returns-clause-are_true : goal.returns-clause-are_true
 returns-clause-are_true g c =
@@ -51,4 +62,4 @@ returns-clause-are_true g c =
     (keeps_added c.args.table.now c.valid.ensures (g.T.Chars.characters c.args.text.now) (λ r. IsShownBefore (g.T.Chars.characters c.args.text.now) r c.args.i
     c.in-Some.entry) c.self.inside.runs
     (subst (λ (s : KeptRuns). AreTrueRuns c.args.table.now (g.T.Chars.characters c.args.text.now) s.runs) (sym c.self.view_is) c.requires.are_true)
-    c.search_back.new.run ready.is_true ready.shows ready.reaches c.add.new.self c.add.ensures).1
+    c.search_back.new.run ready.is_true ready.shows ready.reaches c.add_compared.new.self c.add_compared.ensures).1
