@@ -7,5 +7,4 @@ pub mod Blocks
 pub mod Kept
 pub mod Kinds
 pub mod Short
-pub mod Reading
 pub mod inner
