@@ -10,3 +10,4 @@ pub mod Even
 mod Digits
 mod AsciiTexts
 mod Nearby
+pub mod Singles

@@ -1,8 +1,8 @@
 -- Milestones of lists: what stands at one, and what becomes of them when the list changes.
 use Rattle.std.proofs.Common.{◌≡◌, ℕ, zero, suc, ◌+◌, ◌-◌, ◌*◌, ◌/◌, ◌<◌, ◌≤◌, List, [], ◌∷◌, ◌++◌, length, get_or, set, take, drop, sum_by, min, refl, sym, ap}
-use Rattle.std.proofs.Common.{◌∙◌, arith, ⊎_elim, length-append, length-take, length-drop, length-set, ◌⊎◌, cond, leb, ltb, eqb, subst}
+use Rattle.std.proofs.Common.{◌∙◌, arith, ⊎_elim, length-append, length-take, length-drop, length-set, ◌⊎◌, cond, ltb, eqb, subst}
 use Rattle.std.specs.List.{slice_range, splice}
-use Rattle.std.proofs.lemmas.Bool.{cases_lt, cond_both, eqb-true, eq-eqb, leb-true, le-leb}
+use Rattle.std.proofs.lemmas.Bool.{cases_lt, cond_both, eqb-true, eq-eqb}
 use Rattle.std.proofs.lemmas.List.{get_or-take, get_or_append_left, get_or-append_right, take-take, take_all, get_or_read, get_or-set_same}
 use Rattle.std.proofs.lemmas.List.{take-set-le, get_or-map, get_or-drop, length-map, take_at, drop_at}
 use Rattle.std.proofs.lemmas.List.Sums.{sum_by_more, sum_by_more_le, sum_by-append, sum_by-take-le, sum_by-take-drop, sum_by-set, sum_by-cons}
@@ -12,7 +12,7 @@ use Rattle.rbbi_model.specs.declared.unit.Unit.TheVariants.{Chars, Utf8, Utf16}
 use Rattle.rbbi_model.specs.Units.{size_of}
 use Rattle.rbbi_model.specs.Spelling.{joined}
 use Rattle.rbbi_model.specs.Words.{most_characters}
-pub use Rattle.rbbi_model.proofs.ByCharacters.{sum_ones, offset_of_chars}
+pub use Rattle.rbbi_model.proofs.ByCharacters.{sum_ones}
 use Rattle.rbbi_text.specs.Cuts.{starts_from}
 use Rattle.rbbi_text.specs.Indexes.{IsIndex}
 use Rattle.rbbi_text.specs.Weighed.{weight_of}
@@ -198,17 +198,6 @@ index_is unit x o count units fit = record {
       (cases_lt count i);
   whole = (λ is. sym fit.sum ∙ eqb-true units o is, λ is. eq-eqb units o (fit.sum ∙ is));
 }
-
--- by characters, an offset is a place
-pub index_of_chars : (x : List ℕ) (o : ℕ) → IsIndex Chars x o (record { at = min o (length x); whole = leb o (length x) })
-index_of_chars x o =
-    let at : sum_by (size_of Chars) (take (min o (length x)) x) ≡ min o (length x) = offset_of_chars x (min o (length x)) (omega arith) in
-    record {
-      within = omega arith;
-      before = omega (arith, at);
-      greatest = λ i fits low. omega (arith, low, offset_of_chars x i fits, fits);
-      whole = (λ is. let low = leb-true o (length x) is in omega (arith, at, low), λ is. le-leb o (length x) (omega (arith, at, is)));
-    }
 
 -- a part of a list takes little
 pub sum_part_small : (unit : TextUnit) (x : List ℕ) (s e : ℕ) → sum_by (size_of unit) (slice_range x s e) ≤ 4 * (e - s)

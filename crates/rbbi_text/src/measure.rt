@@ -1,9 +1,10 @@
 //! How much of a unit characters and pieces of a text take.
-ghost use Rattle.std.specs.Prelude.{◌≡◌, ◌+◌, ◌<◌, ◌≤◌, ◌^◌, ℕ, length, sum_by};
+ghost use Rattle.std.specs.Prelude.{◌≡◌, ◌+◌, ◌<◌, ◌≤◌, ◌^◌, ℕ, length, sum_by, chars, IsTrue};
 ghost use Rattle.rbbi_model.specs.declared.unit.Unit.{Unit as TextUnit};
 ghost use Rattle.rbbi_model.specs.declared.unit.Unit.TheVariants.{Utf8};
 ghost use Rattle.rbbi_model.specs.Units.{size_of, offset_of};
 ghost use Rattle.rbbi_model.specs.Words.{most_characters};
+ghost use Rattle.rbbi_text.specs.Weighed.{IsSingle};
 ghost use Rattle.rbbi_text.specs.inner.Fits.{IsFit};
 
 use crate::Unit;
@@ -63,6 +64,18 @@ pub(crate) fn taken(items: &[char], unit: Unit) -> u32
         Unit::Utf8 => total(items, Unit::Utf8),
         Unit::Utf16 => total(items, Unit::Utf16),
     }
+}
+
+/// Whether each character of a string takes one of a unit.
+pub(crate) fn each_takes_one(text: &str, unit: Unit) -> bool
+    ensures { IsTrue result → IsSingle unit (chars text.now) }
+{
+    for c in text.chars() {
+        if c.units(unit) != 1 {
+            return false;
+        }
+    }
+    true
 }
 
 /// How much of a unit the characters from one number to another take together.

@@ -1,7 +1,7 @@
 //! A text by pieces.
 ghost use Rattle.std.specs.Prelude.{ℕ, ◌≡◌, ◌+◌, ◌-◌, ◌^◌, ◌<◌, ◌≤◌, [], ◌∷◌, ◌++◌, length, take};
 ghost use Rattle.std.specs.Prelude.{drop, slice_index, slice_index_or, slice_set, chars, IfOk};
-ghost use Rattle.std.specs.Prelude.{OnOk, OnErr, MatchBool, MatchOption, ⊤};
+ghost use Rattle.std.specs.Prelude.{OnOk, OnErr, MatchBool, MatchOption, ⊤, IsTrue};
 ghost use Rattle.rbbi_model.specs.Words.{most_characters};
 ghost use Rattle.rbbi_model.specs.Spelling.{joined};
 ghost use Rattle.rbbi_model.specs.Scripts.{splice};
@@ -11,11 +11,11 @@ ghost use Rattle.rbbi_text.specs.inner.Cuts.{AreWholeCut, IsMiddle, shifted, pie
 ghost use Rattle.rbbi_text.specs.inner.Cuts.{starts_with_new, edited_piece};
 ghost use Rattle.rbbi_model.specs.Units.{offset_of};
 ghost use Rattle.rbbi_text.specs.Milestones.{AreMilestones};
-ghost use Rattle.rbbi_text.specs.Weighed.{weight_of};
+ghost use Rattle.rbbi_text.specs.Weighed.{weight_of, IsSingle};
 ghost use Rattle.rbbi_text.specs.Indexes.{IsIndex};
 ghost use Rattle.rbbi_text.specs.Answers.{TakesText, ReadsText};
 
-use crate::measure::{Measure, fit_in};
+use crate::measure::{Measure, each_takes_one, fit_in, total};
 use crate::milestones::{Milestones, before, find, shift_milestones};
 use crate::piece::{FEW, FULL, Piece, QUARTER, cut, pieces_of};
 use crate::places::{character, locate, piece_around, push_starts, shift};
@@ -43,16 +43,18 @@ pub struct Pieces {
     len: u32,
     /// Where each 8th piece starts in the unit for which the text is ready.
     milestones: Milestones,
+    /// Whether each character is known to take one of that unit.
+    single: bool,
     /// Where the memory of further pieces comes from.
     alloc: Global,
 }
 
 impl Model for Pieces {
-    ghost use Rattle.std.specs.Prelude.{List, ℕ};
+    ghost use Rattle.std.specs.Prelude.{List, ℕ, IsTrue};
     ghost use Rattle.rbbi_model.specs.Spelling.{joined};
     ghost use Rattle.rbbi_text.specs.Cuts.{AreCut};
     ghost use Rattle.rbbi_text.specs.Milestones.{AreMilestones};
-    ghost use Rattle.rbbi_text.specs.Weighed.{weight_of};
+    ghost use Rattle.rbbi_text.specs.Weighed.{weight_of, IsSingle};
 
     ghost Value = { List ℕ };
 
@@ -60,7 +62,8 @@ impl Model for Pieces {
 
     ghost invariant = { λ text. AreCut text.pieces.items text.starts.items text.len
         × AreMilestones (weight_of text.milestones.unit) text.pieces.items
-        text.milestones.sums.items };
+        text.milestones.sums.items
+        × (IsTrue text.single → IsSingle text.milestones.unit (joined text.pieces.items)) };
 }
 
 /// It writes the type's name and none of the characters, which only `char_at` gives.
@@ -83,6 +86,7 @@ fn text_of(alloc: Global, pieces: Vec<Piece>) -> Result<Pieces, AllocError>
         starts,
         len,
         milestones,
+        single: false,
         alloc,
     })
 }
@@ -165,6 +169,7 @@ fn edit_piece(
         ++ shifted remove added (drop (first + 1) starts.old.items)) }
     ensures milestones { OnOk result (AreMilestones (weight_of milestones.new.unit)
         pieces.new.items milestones.new.sums.items) }
+    ensures unit { OnOk result (milestones.new.unit ≡ milestones.old.unit) }
     ensures err { OnErr result (pieces.new.items ≡ pieces.old.items) }
     ensures err_starts { OnErr result (starts.new.items ≡ starts.old.items) }
     ensures err_milestones { OnErr result (milestones.new ≡ milestones.old) }
@@ -308,6 +313,7 @@ fn edit(
         ≡ splice (joined pieces.old.items) place remove (chars insert.now)) }
     ensures milestones { OnOk result (AreMilestones (weight_of milestones.new.unit)
         pieces.new.items milestones.new.sums.items) }
+    ensures unit { OnOk result (milestones.new.unit ≡ milestones.old.unit) }
     ensures err { OnErr result (pieces.new.items ≡ pieces.old.items) }
     ensures err_starts { OnErr result (starts.new.items ≡ starts.old.items) }
     ensures err_milestones { OnErr result (milestones.new ≡ milestones.old) }
@@ -347,6 +353,7 @@ impl EditText for Pieces {
             added,
         )?;
         self.len = self.len - remove + added;
+        self.single = self.single && each_takes_one(insert, self.milestones.unit);
         Ok(())
     }
 }
@@ -439,27 +446,50 @@ fn measure_in(pieces: &mut Vec<Piece>, unit: Unit)
     }
 }
 
-impl UnitText for Pieces {
-    fn offset(&self, unit: Unit, i: u32) -> u32 {
-        let place = i as usize;
+impl Pieces {
+    /// Whether each character is known to take one of a unit, so that it lies where its place is.
+    #[inline(always)]
+    fn is_single(&self, unit: Unit) -> bool
+        ensures { IsTrue result → IsSingle unit self.now }
+    {
         match unit {
-            Unit::Chars => i,
-            Unit::Utf8 | Unit::Utf16 => {
-                let sums = self.milestones.sums_in(unit);
-                offset_in(&self.pieces, &self.starts, sums, unit, place)
-            }
+            Unit::Chars => true,
+            Unit::Utf8 | Unit::Utf16 => self.single && unit == self.milestones.unit,
         }
     }
 
-    fn offset_from(&self, unit: Unit, from: u32, offset: u32, i: u32) -> u32 {
-        if let Unit::Chars = unit {
-            return i;
-        }
+    /// Where a place lies, as `offset_from`, where characters may take more than one.
+    #[inline(never)]
+    fn offset_near(&self, unit: Unit, from: u32, offset: u32, i: u32) -> u32
+        requires from { from ≤ length self.now }
+        requires offset { offset ≡ offset_of unit self.now from }
+        requires within { i ≤ length self.now }
+        ensures { result ≡ offset_of unit self.now i }
+    {
         match units_near(&self.pieces, &self.starts, unit, from.min(i), from.max(i)) {
             Some(units) if from <= i => offset + units,
             Some(units) => offset - units,
             None => self.offset(unit, i),
         }
+    }
+}
+
+impl UnitText for Pieces {
+    #[inline]
+    fn offset(&self, unit: Unit, i: u32) -> u32 {
+        if self.is_single(unit) {
+            return i;
+        }
+        let sums = self.milestones.sums_in(unit);
+        offset_in(&self.pieces, &self.starts, sums, unit, i as usize)
+    }
+
+    #[inline]
+    fn offset_from(&self, unit: Unit, from: u32, offset: u32, i: u32) -> u32 {
+        if self.is_single(unit) {
+            return i;
+        }
+        self.offset_near(unit, from, offset, i)
     }
 
     fn make_ready(&mut self, unit: Unit) {
@@ -469,25 +499,26 @@ impl UnitText for Pieces {
                 measure_in(&mut self.pieces, unit);
                 self.milestones.unit = unit;
                 self.milestones.renew(&self.pieces, 0);
+                self.single = total(&self.pieces, unit) == self.len;
             }
         }
     }
 
+    #[inline]
     fn index(&self, unit: Unit, o: u32) -> Index {
-        match unit {
-            Unit::Chars => Index {
+        if self.is_single(unit) {
+            return Index {
                 at: o.min(self.len),
                 whole: o <= self.len,
-            },
-            Unit::Utf8 | Unit::Utf16 => {
-                let sums = self.milestones.sums_in(unit);
-                index_in(&self.pieces, &self.starts, sums, unit, o)
-            }
+            };
         }
+        let sums = self.milestones.sums_in(unit);
+        index_in(&self.pieces, &self.starts, sums, unit, o)
     }
 
+    #[inline]
     fn index_from(&self, unit: Unit, from: u32, offset: u32, o: u32) -> Index {
-        if let Unit::Chars = unit {
+        if self.is_single(unit) {
             return self.index(unit, o);
         }
         match index_near(&self.pieces, &self.starts, unit, from, offset, o) {

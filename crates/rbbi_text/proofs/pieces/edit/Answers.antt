@@ -59,7 +59,8 @@ returns-then-fits c =
     (λ more. omega (arith, size, c.if-fits.ensures.2 (omega (arith, more, c.len.ensures, c.args.pieces.now.ok.0)), c.requires.added))
     c.in_ok-edit_piece.ensures.pieces
     (c.in_ok-edit_piece.ensures.starts ∙ ap (λ (n : ℕ). take (first + 1) starts ++ shifted c.args.remove n (drop (first + 1) starts)) c.requires.added) in
-    record { cut = made.0; text = made.1; milestones = c.in_ok-edit_piece.ensures.milestones; err = tt; err_starts = tt; err_milestones = tt }
+    let told = c.in_ok-edit_piece.ensures in
+    record { cut = made.0; text = made.1; milestones = told.milestones; unit = told.unit; err = tt; err_starts = tt; err_milestones = tt }
 
 pub starts_with-requires-clause-few : goal.starts_with-requires-clause-few
 starts_with-requires-clause-few c =
@@ -157,6 +158,7 @@ returns c =
       text = made'.1;
       milestones = subst (λ u. AreMilestones (weight_of u) c.splice.new.self.items c.renew.new.self.sums.items) (sym c.renew.ensures.unit)
           (subst (λ l. AreMilestones (weight_of c.args.milestones.now.unit) l c.renew.new.self.sums.items) c.deref-8.ensures.value c.renew.ensures.are);
+      unit = c.renew.ensures.unit;
       err = tt;
       err_starts = tt;
       err_milestones = tt;

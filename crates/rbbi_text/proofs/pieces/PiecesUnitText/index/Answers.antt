@@ -1,19 +1,19 @@
 use Rattle.std.proofs.Common.{◌≡◌, ℕ, List, length, leb, min, sym, ap, ◌∙◌, subst}
-use Rattle.rbbi_model.specs.declared.unit.Unit.TheVariants.{Chars}
 use Rattle.rbbi_text.specs.Indexes.{IsIndex}
 use Rattle.rbbi_text.specs.Milestones.{AreMilestones}
 use Rattle.rbbi_text.specs.Weighed.{weight_of}
-use Rattle.rbbi_text.proofs.MilestoneLemmas.{index_of_chars, sums_are}
+use Rattle.rbbi_text.proofs.MilestoneLemmas.{sums_are}
+use Rattle.rbbi_text.proofs.Singles.{index_of_single}
 use Rattle.rbbi_text.proofs.pieces.PiecesUnitText.index.Goals as goal
 
-pub returns-in-Chars : goal.returns-in-Chars
-returns-in-Chars c =
+pub returns-then-is_single : goal.returns-then-is_single
+returns-then-is_single c =
     let x : List ℕ = c.args.self.now in
     let o : ℕ = c.args.o in
     let long : c.self.inside.len ≡ length x = c.self.invariant.0.long ∙ ap length c.self.view_is in
-    subst (λ u. IsIndex u x o (record { at = c.min.result; whole = leb o c.self.inside.len })) (sym c.in-Chars.is)
-    (subst (λ n. IsIndex Chars x o (record { at = n; whole = leb o c.self.inside.len })) (sym c.min.ensures)
-    (subst (λ n. IsIndex Chars x o (record { at = min o n; whole = leb o n })) (sym long) (index_of_chars x o)))
+    subst (λ n. IsIndex c.args.unit x o (record { at = n; whole = leb o c.self.inside.len })) (sym c.min.ensures)
+    (subst (λ n. IsIndex c.args.unit x o (record { at = min o n; whole = leb o n })) (sym long)
+    (index_of_single c.args.unit x (c.is_single.ensures c.if-is_single.true) o))
 
 pub index_in-requires-clause-sums : goal.index_in-requires-clause-sums
 index_in-requires-clause-sums c =

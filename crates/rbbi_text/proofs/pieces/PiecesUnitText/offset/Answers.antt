@@ -1,15 +1,12 @@
-use Rattle.std.proofs.Common.{◌≡◌, ℕ, List, sym, subst}
-use Rattle.rbbi_model.specs.Units.{offset_of}
+use Rattle.std.proofs.Common.{sym, subst}
 use Rattle.rbbi_text.specs.Milestones.{AreMilestones}
 use Rattle.rbbi_text.specs.Weighed.{weight_of}
-use Rattle.rbbi_text.proofs.MilestoneLemmas.{offset_of_chars, sums_are}
+use Rattle.rbbi_text.proofs.MilestoneLemmas.{sums_are}
+use Rattle.rbbi_text.proofs.Singles.{offset_of_single}
 use Rattle.rbbi_text.proofs.pieces.PiecesUnitText.offset.Goals as goal
 
-pub returns-in-Chars : goal.returns-in-Chars
-returns-in-Chars c =
-    let x : List ℕ = c.args.self.now in
-    let i : ℕ = c.args.i in
-    subst (λ u. i ≡ offset_of u x i) (sym c.in-Chars.is) (sym (offset_of_chars x i c.requires))
+pub returns-then-is_single : goal.returns-then-is_single
+returns-then-is_single c = sym (offset_of_single c.args.unit c.args.self.now (c.is_single.ensures c.if-is_single.true) c.args.i c.requires)
 
 pub offset_in-requires-clause-sums : goal.offset_in-requires-clause-sums
 offset_in-requires-clause-sums c =

@@ -1,32 +1,6 @@
-use Rattle.std.proofs.Common.{◌≡◌, ◌≤◌, List, ℕ, length, sym, ap, ◌∙◌, subst, arith}
-use Rattle.std.proofs.lemmas.List.Sums.{sum_by-take-le}
-use Rattle.rbbi_model.specs.Spelling.{joined}
-use Rattle.rbbi_model.specs.Units.{size_of, offset_of}
-use Rattle.rbbi_model.specs.Words.{most_characters}
-use Rattle.rbbi_text.proofs.MilestoneLemmas.{offset_of_chars, text_small}
+use Rattle.std.proofs.Common.{sym}
+use Rattle.rbbi_text.proofs.Singles.{offset_of_single}
 use Rattle.rbbi_text.proofs.pieces.PiecesUnitText.offset_from.Goals as goal
 
-pub returns-in-Chars : goal.returns-in-Chars
-returns-in-Chars c =
-    let x : List ℕ = c.args.self.now in
-    let i : ℕ = c.args.i in
-    subst (λ u. i ≡ offset_of u x i) (sym c.in-Chars.is) (sym (offset_of_chars x i c.requires.within))
-
-pub overflow_add-result : goal.overflow_add-result
-overflow_add-result c =
-    let x : List ℕ = c.args.self.now in
-    let text : joined c.deref.result.now ≡ x = ap joined c.deref.ensures.value ∙ c.self.view_is in
-    let few : length x ≤ most_characters = omega (arith, ap length c.self.view_is, c.self.invariant.0.whole.text.1) in
-    let low : c.min.result ≡ c.args.from = omega (arith, c.min.ensures, c.if-from-i.true) in
-    let high : c.max.result ≡ c.args.i = omega (arith, c.max.ensures, c.if-from-i.true) in
-    omega (
-      arith,
-      c.in-Some.ensures,
-      c.requires.offset,
-      ap (λ n. offset_of c.args.unit (joined c.deref.result.now) n) low,
-      ap (λ (l : List ℕ). offset_of c.args.unit l c.args.from) text,
-      ap (λ n. offset_of c.args.unit (joined c.deref.result.now) n) high,
-      ap (λ (l : List ℕ). offset_of c.args.unit l c.args.i) text,
-      sum_by-take-le (size_of c.args.unit) x c.args.i,
-      text_small c.args.unit x few,
-    )
+pub returns-then-is_single : goal.returns-then-is_single
+returns-then-is_single c = sym (offset_of_single c.args.unit c.args.self.now (c.is_single.ensures c.if-is_single.true) c.args.i c.requires.within)

@@ -1,0 +1,14 @@
+use Rattle.std.proofs.Common.{◌≡◌, chars, sym, ◌∙◌, subst}
+use Rattle.std.proofs.lemmas.List.{map-id}
+use Rattle.std.proofs.lemmas.Iterator.{YieldsList-from_chars}
+use Rattle.std.proofs.lemmas.Iterator.Consumers.{YieldsList-end}
+use Rattle.rbbi_text.specs.Weighed.{IsSingle}
+use Rattle.rbbi_text.proofs.measure.each_takes_one.Goals as goal
+
+-- the characters so far are all
+pub returns : goal.returns
+returns c =
+    let t =
+    YieldsList-end (YieldsList-from_chars c.args.text.now c.utf8.text cc) c.loop-c.yielded _ c.loop-c.yielded_by _ _ c.in-None.is c.next.ensures.steps in
+    let all : c.loop-c.yielded ≡ chars c.args.text.now = sym (map-id c.loop-c.yielded) ∙ t.0 in
+    λ _. subst (IsSingle c.args.unit) all c.loop-c.invariant
