@@ -1,6 +1,6 @@
 -- The kept runs as the first of the slots.
-use Rattle.std.proofs.Common.{◌≡◌, ◌≢◌, ℕ, zero, suc, ◌+◌, ◌<◌, ◌≤◌, List, [], ◌∷◌, ◌++◌, length, length-append, length-take, take, drop, get_or, sym, refl, ap, ◌∙◌, ⊎_elim}
-use Rattle.std.proofs.Common.{append_assoc, arith}
+use Rattle.std.proofs.Common.{◌≡◌, ◌≢◌, ℕ, zero, suc, ◌+◌, ◌<◌, ◌≤◌, List, [], ◌∷◌, ◌++◌, length, length-append, length-take, take}
+use Rattle.std.proofs.Common.{drop, get_or, sym, refl, ap, ◌∙◌, ⊎_elim, append_assoc, arith}
 use Rattle.std.specs.Prelude.{min, slice_set}
 use Rattle.std.proofs.lemmas.List.{take-append-drop, take_all, take-take}
 use Rattle.std.proofs.lemmas.Bool.{cases_lt}

@@ -20,8 +20,8 @@ apart_around-from-requires g c =
 pub invariant_of-self-4 : goal.invariant_of-self-4
 invariant_of-self-4 g c = (
   none_quiet _ 0 _ refl,
-  added_apart c.apart_around-from.result.0 c.apart_around-from.result.1 c.search_back.new.run c.self.inside.runs c.add_compared.new.self c.apart_around-from.ensures
-      c.add_compared.ensures,
+  added_apart c.apart_around-from.result.0 c.apart_around-from.result.1 c.search_back.new.run c.self.inside.runs c.add_compared.new.self
+      c.apart_around-from.ensures c.add_compared.ensures,
 )
 
 pub count_extendable-count-requires-clause-rising : goal.count_extendable-count-requires-clause-rising

@@ -25,11 +25,12 @@ pub returns-clause-others : goal.returns-clause-others
 returns-clause-others g c =
     let short : c.self.inside.count ≤ length c.self.inside.slots = omega (arith, c.self.invariant.0, c.self.invariant.1) in
     let first = first_is c.self.inside.slots c.self.inside.count c.if-self-eq0.false short c.index-self-0.result in
-    ap (drop 1) (written_is c.self.inside.slots c.self.inside.count short c.args.self.now [] (get_or c.self.inside.slots 0 c.index-self-0.result) first.0 c.self.view_is
-    (sym c.self.view_is ∙ first.1) 0 refl c.step.new.run) ∙ sym (ap (drop 1) (sym c.self.view_is ∙ first.1))
+    ap (drop 1) (written_is c.self.inside.slots c.self.inside.count short c.args.self.now [] (get_or c.self.inside.slots 0 c.index-self-0.result) first.0
+    c.self.view_is (sym c.self.view_is ∙ first.1) 0 refl c.step.new.run) ∙ sym (ap (drop 1) (sym c.self.view_is ∙ first.1))
 
 pub returns-clause-unknown : goal.returns-clause-unknown
 returns-clause-unknown g c =
     let short : c.self.inside.count ≤ length c.self.inside.slots = omega (arith, c.self.invariant.0, c.self.invariant.1) in
     let first = first_is c.self.inside.slots c.self.inside.count c.if-self-eq0.false short c.index-self-0.result in
-    unknown_to_first c.args.i c.step.result (get_or c.self.inside.slots 0 c.index-self-0.result) first.0 c.args.self.now (sym c.self.view_is ∙ first.1) c.step.ensures.unknown
+    unknown_to_first c.args.i c.step.result (get_or c.self.inside.slots 0 c.index-self-0.result) first.0 c.args.self.now (sym c.self.view_is ∙ first.1)
+    c.step.ensures.unknown
