@@ -1,28 +1,21 @@
 -- Texts each of whose characters takes one of a unit: a place lies where it is.
-use Rattle.std.proofs.Common.{◌≡◌, ℕ, ◌+◌, ◌≤◌, List, [], ◌∷◌, ◌++◌, length, take, drop, sum_by, min, ltb, leb, cond, ap, arith}
+use Rattle.std.proofs.Common.{◌≡◌, ℕ, ◌+◌, ◌≤◌, List, [], ◌∷◌, ◌++◌, length, take, drop, sum_by, min, leb, ap, arith}
 use Rattle.std.proofs.Common.{length-append, length-take, length-drop}
-use Rattle.std.proofs.lemmas.Bool.{cond_both, leb-true, le-leb}
+use Rattle.std.proofs.lemmas.Bool.{leb-true, le-leb}
 use Rattle.std.proofs.lemmas.List.Sums.{sum_by-append, sum_by-cons, sum_by-take-drop}
 use Rattle.rbbi_model.specs.declared.unit.Unit.{Unit as TextUnit}
-use Rattle.rbbi_model.specs.declared.unit.Unit.TheVariants.{Chars, Utf8, Utf16}
 use Rattle.rbbi_model.specs.Units.{size_of, offset_of}
+use Rattle.rbbi_model.proofs.Measured.{offset_rises}
 use Rattle.rbbi_model.specs.Scripts.{splice}
 use Rattle.rbbi_text.specs.Indexes.{IsIndex}
 use Rattle.rbbi_text.specs.Weighed.{IsSingle}
 
--- a character takes some of a unit
-size_of_some : (unit : TextUnit) (c : ℕ) → 1 ≤ size_of unit c
-size_of_some Chars c = omega arith
-size_of_some Utf8 c =
-    cond_both (ltb c 0x80) 1 (cond (ltb c 0x800) 2 (cond (ltb c 0x10000) 3 4)) (λ n. 1 ≤ n) (λ _. omega arith)
-    (λ _.
-    cond_both (ltb c 0x800) 2 (cond (ltb c 0x10000) 3 4) (λ n. 1 ≤ n) (λ _. omega arith)
-    (λ _. cond_both (ltb c 0x10000) 3 4 (λ n. 1 ≤ n) (λ _. omega arith) (λ _. omega arith)))
-size_of_some Utf16 c = cond_both (ltb c 0x10000) 1 2 (λ n. 1 ≤ n) (λ _. omega arith) (λ _. omega arith)
-
+-- a text takes as much of a unit as it has characters at least
 sum_some : (unit : TextUnit) (x : List ℕ) → length x ≤ sum_by (size_of unit) x
 sum_some unit [] = omega arith
-sum_some unit (c ∷ x) = omega (arith, sum_by-cons (size_of unit) c x, size_of_some unit c, sum_some unit x)
+sum_some unit (c ∷ x) =
+    let some : 1 ≤ size_of unit c = omega (arith, offset_rises unit (c ∷ []) 0 1 (omega arith) (omega arith), sum_by-cons (size_of unit) c []) in
+    omega (arith, sum_by-cons (size_of unit) c x, some, sum_some unit x)
 
 module _ (unit : TextUnit) (x : List ℕ) (single : IsSingle unit x) where
   -- both parts of such a text are such texts
