@@ -1,5 +1,5 @@
 -- The boundaries within a range of a session's text, as they are found and written.
-use Rattle.std.proofs.Common.{◌≡◌, ℕ, ◌+◌, ◌<◌, ◌≤◌, List, ◌∷◌, Option, Some, None, length, set, sym, refl, ap, ◌∙◌, subst}
+use Rattle.std.proofs.Common.{◌≡◌, ℕ, ◌+◌, ◌<◌, ◌≤◌, List, [], ◌∷◌, Option, Some, None, length, set, sym, refl, ap, ◌∙◌, subst}
 use Rattle.std.specs.Prelude.{⊤, MatchOption}
 use Rattle.rbbi_model.specs.declared.unit.Unit.{Unit as TextUnit}
 use Rattle.rbbi_model.specs.Boundaries.{Boundary}
@@ -116,6 +116,23 @@ pub are_listed : (old : Session) (table : Table) (unit : TextUnit) (x : List ℕ
 are_listed old table unit x found first same text kept are =
     are_kept table unit x found first kept
     (subst (λ y. AreBounds table unit y found) (sym text) (subst (λ t. AreBounds t unit old.state.text found) same are))
+
+-- places lie at the same offsets in another unit
+module _ (x : List ℕ) (one other : TextUnit) (same : (i : ℕ) → offset_of one x i ≡ offset_of other x i) where
+  pub measured_alike : (boundaries : List Boundary) → measured one x boundaries ≡ measured other x boundaries
+  measured_alike [] = refl
+  measured_alike (boundary ∷ boundaries) =
+      let first : ℕ → Boundary = λ n. record { at = n; statuses = boundary.statuses } in
+      ap (λ n. first n ∷ measured one x boundaries) (same boundary.at)
+      ∙ ap (λ (l : List Boundary). first (offset_of other x boundary.at) ∷ l) (measured_alike boundaries)
+
+  pub bounds_alike : (table : Table) (found : Option Bound) → AreBounds table one x found → AreBounds table other x found
+  bounds_alike table None are = tt
+  bounds_alike table (Some bound) are = record {
+    is_place = are.is_place;
+    offset_is = are.offset_is ∙ same bound.at;
+    status_is = are.status_is;
+  }
 
 -- What is listed from the first boundary within a range on is what the range has.
 pub lists_past : (old : Session) (table : Table) (unit : TextUnit) (x : List ℕ) (from to i last : ℕ) (found first : Option Bound)

@@ -167,6 +167,7 @@ pub(crate) fn list_past<L: Ledger>(
     let first = no_later(find_past(session, unit, past, steps), last);
     go_back(session, cursor, steps);
     let text = session.text();
+    let unit = text.simplest(unit);
     let _units = text.offset(unit, text.len());
     list_on(
         table, text, unit, first, last, from, places, statuses, marks, steps,

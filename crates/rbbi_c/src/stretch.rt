@@ -56,7 +56,7 @@ fn measured(excerpt: &Excerpt<'_>, unit: Unit, from: u32) -> Block
     ensures measured { IsMeasured unit excerpt.now.items result }
 {
     let to = from + BLOCK.min(excerpt.len() - from);
-    let even = excerpt.units_between(unit, from, to) == to - from;
+    let even = excerpt.are_single(unit, from, to);
     Block { from, to, even }
 }
 
@@ -86,6 +86,13 @@ fn units_on(excerpt: &Excerpt<'_>, unit: Unit, from: u32, to: u32, block: &mut B
         ≡ offset_of unit excerpt.now.items to }
     ensures measured { IsMeasured unit excerpt.now.items block.new }
 {
+    if let Unit::Chars = unit {
+        return to - from;
+    }
+    // Many segments are one character.
+    if to - from == 1 {
+        return excerpt.units_between(unit, from, to);
+    }
     *block = block_on(excerpt, unit, from, to, *block);
     if block.even && to <= block.to {
         return to - from;

@@ -1,32 +1,26 @@
 -- Texts each of whose characters takes one of a unit: a place lies where it is.
-use Rattle.std.proofs.Common.{◌≡◌, ℕ, ◌+◌, ◌≤◌, List, [], ◌∷◌, ◌++◌, length, take, drop, sum_by, min, ltb, leb, cond, ap, arith}
+use Rattle.std.proofs.Common.{◌≡◌, ℕ, ◌+◌, ◌<◌, ◌≤◌, List, [], ◌∷◌, ◌++◌, length, get_or, take, drop, sum_by, min, ltb, leb, cond, ap, arith}
 use Rattle.std.proofs.Common.{length-append, length-take, length-drop}
-use Rattle.std.proofs.lemmas.Bool.{cond_both, leb-true, le-leb}
-use Rattle.std.proofs.lemmas.List.Sums.{sum_by-append, sum_by-cons, sum_by-take-drop}
+use Rattle.std.proofs.lemmas.Bool.{leb-true, le-leb, lt-ltb}
+use Rattle.std.proofs.lemmas.List.Sums.{sum_by-append, sum_by-cons, sum_by-take-drop, sum_by_more}
 use Rattle.rbbi_model.specs.declared.unit.Unit.{Unit as TextUnit}
-use Rattle.rbbi_model.specs.declared.unit.Unit.TheVariants.{Chars, Utf8, Utf16}
+use Rattle.rbbi_model.specs.declared.unit.Unit.TheVariants.{Utf8, Utf16}
 use Rattle.rbbi_model.specs.Units.{size_of, offset_of}
+use Rattle.rbbi_model.proofs.Measured.{offset_rises}
 use Rattle.rbbi_model.specs.Scripts.{splice}
 use Rattle.rbbi_text.specs.Indexes.{IsIndex}
 use Rattle.rbbi_text.specs.Weighed.{IsSingle}
 
--- a character takes some of a unit
-size_of_some : (unit : TextUnit) (c : ℕ) → 1 ≤ size_of unit c
-size_of_some Chars c = omega arith
-size_of_some Utf8 c =
-    cond_both (ltb c 0x80) 1 (cond (ltb c 0x800) 2 (cond (ltb c 0x10000) 3 4)) (λ n. 1 ≤ n) (λ _. omega arith)
-    (λ _.
-    cond_both (ltb c 0x800) 2 (cond (ltb c 0x10000) 3 4) (λ n. 1 ≤ n) (λ _. omega arith)
-    (λ _. cond_both (ltb c 0x10000) 3 4 (λ n. 1 ≤ n) (λ _. omega arith) (λ _. omega arith)))
-size_of_some Utf16 c = cond_both (ltb c 0x10000) 1 2 (λ n. 1 ≤ n) (λ _. omega arith) (λ _. omega arith)
-
+-- a text takes as much of a unit as it has characters at least
 sum_some : (unit : TextUnit) (x : List ℕ) → length x ≤ sum_by (size_of unit) x
 sum_some unit [] = omega arith
-sum_some unit (c ∷ x) = omega (arith, sum_by-cons (size_of unit) c x, size_of_some unit c, sum_some unit x)
+sum_some unit (c ∷ x) =
+    let some : 1 ≤ size_of unit c = omega (arith, offset_rises unit (c ∷ []) 0 1 (omega arith) (omega arith), sum_by-cons (size_of unit) c []) in
+    omega (arith, sum_by-cons (size_of unit) c x, some, sum_some unit x)
 
 module _ (unit : TextUnit) (x : List ℕ) (single : IsSingle unit x) where
   -- both parts of such a text are such texts
-  single_parts : (i : ℕ) → IsSingle unit (take i x) × IsSingle unit (drop i x)
+  pub single_parts : (i : ℕ) → IsSingle unit (take i x) × IsSingle unit (drop i x)
   single_parts i =
       let short = sum_some unit (take i x) in
       let rest = sum_some unit (drop i x) in
@@ -64,3 +58,14 @@ module _ (unit : TextUnit) (x : List ℕ) (single : IsSingle unit x) where
         (single_parts (at + remove)).1,
         single_word,
       )
+
+-- one more character that takes one
+pub single_more : (unit : TextUnit) (x : List ℕ) (i : ℕ) → i < length x → size_of unit (get_or x i 0) ≡ 1 → IsSingle unit (take i x) →
+    IsSingle unit (take (i + 1) x)
+single_more unit x i short one single = omega (arith, sum_by_more (size_of unit) x i 0 short, one, single, length-take i x, length-take (i + 1) x)
+
+pub one_byte : (c : ℕ) → c < 0x80 → size_of Utf8 c ≡ 1
+one_byte c low = ap (λ b. cond b 1 (cond (ltb c 0x800) 2 (cond (ltb c 0x10000) 3 4))) (lt-ltb c 0x80 low)
+
+pub one_unit : (c : ℕ) → c < 0x10000 → size_of Utf16 c ≡ 1
+one_unit c low = ap (λ b. cond b 1 2) (lt-ltb c 0x10000 low)

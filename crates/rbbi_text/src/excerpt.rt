@@ -1,9 +1,10 @@
 //! Characters of a text that stand next to each other in memory.
-ghost use Rattle.std.specs.Prelude.{◌≡◌, ℕ, List, slice_index, ⊤};
+ghost use Rattle.std.specs.Prelude.{◌≡◌, ◌+◌, ◌-◌, ◌≤◌, ℕ, List, length, slice_index, ⊤, IsTrue};
 ghost use Rattle.std.specs.Prelude.{MatchOption};
+ghost use Rattle.rbbi_model.specs.Units.{offset_of};
 ghost use Rattle.rbbi_text.specs.Excerpts.{IsExcerptOf};
 
-use crate::measure::taken_between;
+use crate::measure::{are_single, taken_between};
 use crate::{Chars, FlatText, Steps, Unit};
 use std::marker::Model;
 use std::sync::ledger::Ledger;
@@ -45,6 +46,16 @@ impl<'a> Excerpt<'a> {
         ensures { result ≡ self.now.from }
     {
         self.from
+    }
+
+    /// Whether each of the characters from one number to another takes one of the unit.
+    pub fn are_single(&self, unit: Unit, from: u32, to: u32) -> bool
+        requires forward { from ≤ to }
+        requires within { to ≤ length self.now.items }
+        ensures { IsTrue result → offset_of unit self.now.items from + (to - from)
+            ≡ offset_of unit self.now.items to }
+    {
+        are_single(&self.items[from as usize..to as usize], unit)
     }
 
     /// The character at a place of the text, if it is one of these.

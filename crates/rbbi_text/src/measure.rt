@@ -78,6 +78,22 @@ pub(crate) fn each_takes_one(text: &str, unit: Unit) -> bool
     true
 }
 
+/// Whether each of these characters takes one of a unit. It reads them all, so that many are
+/// compared at once.
+pub(crate) fn are_single(items: &[char], unit: Unit) -> bool
+    ensures { IsTrue result → IsSingle unit items.now }
+{
+    let mut bits = 0;
+    for item in items {
+        bits |= *item as u32;
+    }
+    match unit {
+        Unit::Chars => true,
+        Unit::Utf8 => bits < 0x80,
+        Unit::Utf16 => bits < 0x10000,
+    }
+}
+
 /// How much of a unit the characters from one number to another take together.
 pub(crate) fn taken_between(items: &[char], unit: Unit, from: u32, to: u32) -> u32
     requires forward { from ≤ to }
@@ -86,6 +102,9 @@ pub(crate) fn taken_between(items: &[char], unit: Unit, from: u32, to: u32) -> u
     ensures sum { offset_of unit items.now from + result ≡ offset_of unit items.now to }
     ensures small { offset_of unit items.now to < 2 ^ 32 }
 {
+    if to - from == 1 {
+        return items[from as usize].units(unit);
+    }
     taken(&items[from as usize..to as usize], unit)
 }
 

@@ -458,6 +458,18 @@ impl Pieces {
         }
     }
 
+    /// A unit in which each place lies where it does in this one: characters, where each is known
+    /// to take one of it.
+    pub fn simplest(&self, unit: Unit) -> Unit
+        ensures { (i : ℕ) → offset_of result self.now i ≡ offset_of unit self.now i }
+    {
+        if self.is_single(unit) {
+            Unit::Chars
+        } else {
+            unit
+        }
+    }
+
     /// Where a place lies, as `offset_from`, where characters may take more than one.
     #[inline(never)]
     fn offset_near(&self, unit: Unit, from: u32, offset: u32, i: u32) -> u32

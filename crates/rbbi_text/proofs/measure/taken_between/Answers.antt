@@ -7,6 +7,10 @@ use Rattle.rbbi_text.proofs.measure.taken_between.Goals as goal
 pub taken-requires : goal.taken-requires
 taken-requires c = omega (arith, slice_small c.args.unit c.args.items.now c.args.from c.args.to, c.requires.few)
 
+pub returns-then-to-from-eq1-clause-small : goal.returns-then-to-from-eq1-clause-small
+returns-then-to-from-eq1-clause-small c =
+    omega (arith, text_small c.args.unit c.args.items.now c.requires.few, sum_by-take-le (size_of c.args.unit) c.args.items.now c.args.to)
+
 pub returns : goal.returns
 returns c =
     let parts = sum_parts (size_of c.args.unit) c.args.items.now c.args.from c.args.to c.requires.forward in
