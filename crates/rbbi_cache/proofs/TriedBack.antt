@@ -1,5 +1,5 @@
 -- How far the tries back from a place have come, and what they may read.
-use Rattle.std.proofs.Common.{◌≡◌, ◌≢◌, ℕ, zero, suc, ◌+◌, ◌-◌, ◌*◌, ◌<◌, ◌≤◌, ◌⊎◌, false, eqb, ltb, List, [], ◌∷◌, ◌++◌, Option, Some, None, length}
+use Rattle.std.proofs.Common.{◌≡◌, ◌≢◌, ℕ, zero, suc, ◌+◌, ◌-◌, ◌*◌, ◌<◌, ◌≤◌, min, ◌⊎◌, true, false, eqb, ltb, List, [], ◌∷◌, ◌++◌, Option, Some, None, length}
 use Rattle.std.proofs.Common.{sym, refl, ap, ◌∙◌, subst, inl, inr, ⊎_elim, append_assoc, arith}
 use Rattle.std.specs.Prelude.{sum_by}
 use Rattle.std.specs.List.{AllByRecursion}
@@ -19,7 +19,7 @@ use Rattle.rbbi_cache.proofs.Reanchor.{fresh_rises}
 use Rattle.rbbi_cache.proofs.Scanned.{first_is}
 use Rattle.rbbi_cache.proofs.Ready.{anchor_is}
 
--- The tries from i have come to this one, and so many characters were read: at most twice those back to it, and those of the searches from the tries before.
+-- The tries from i have come to this one, and as many characters were read. Each try before it may have read two more than its searches do.
 pub record Tried (table : Table) (x : List ℕ) (i q read : ℕ) : Type 0 where
   pub done : List ℕ
   pub most : ℕ
@@ -27,7 +27,12 @@ pub record Tried (table : Table) (x : List ℕ) (i q read : ℕ) : Type 0 where
   pub enough : q ≤ most
   pub anchor : IsAnchor table x q
   pub far : (q ≡ 0) ⊎ (q + 3 ≤ i)
-  pub cost : read + 2 * q ≤ 2 * i + sum_by (λ p. searches_cost table x p (i - 1)) done
+  pub cost : read + q + min q (1 + (q + 4 - i)) ≤ min (i + 1) (2 * i - 1) + sum_by (λ p. searches_cost table x p (i - 1)) done
+
+-- The tries have come to this one, and at most twice the characters back to it were read beside those of the searches from the tries before.
+pub record TriedFar (table : Table) (x : List ℕ) (i q read : ℕ) : Type 0 where
+  pub tried : Tried table x i q 0
+  pub cost : read + 2 * q ≤ 2 * i + sum_by (λ p. searches_cost table x p (i - 1)) tried.done
 
 last_joined : (done : List ℕ) (q : ℕ) (rest : List ℕ) → last_of (done ++ q ∷ rest) ≡ last_of (q ∷ rest)
 last_joined [] q rest = refl
@@ -39,33 +44,45 @@ module _ (table : Table) (valid : IsValidTable table) (x : List ℕ) (i : ℕ) w
   lies : (high : ℕ) → (anchor_below table x high ≡ 0) ⊎ (anchor_below table x high < high)
   lies high = (anchor_is table valid x high).below
 
-  pub tried_first : (read : ℕ) → 0 < i → read + 2 * anchor_below table x (i - 2) ≤ 2 * i → Tried table x i (anchor_below table x (i - 2)) read
-  tried_first read some walked = record {
+  pub tried_first : (read : ℕ) → 0 < i → read + anchor_below table x (i - 2) ≤ (i - 2) + 1 → ((i - 2) ≤ 1 → read ≡ 0) → Tried table x i (anchor_below table x
+      (i - 2)) read
+  tried_first read some walked near = record {
     done = [];
     most = i;
     whole = refl;
     enough = ⊎_elim (λ zero. omega arith) (λ less. omega arith) (lies (i - 2));
     anchor = (anchor_is table valid x (i - 2)).anchor;
     far = ⊎_elim (λ zero. inl zero) (λ less. inr (omega arith)) (lies (i - 2));
-    cost = omega arith;
+    cost = ⊎_elim (λ zero. omega arith) (λ less. omega arith) (lies (i - 2));
   }
 
   -- the try settled nothing, and the next one is made
-  pub tried_next : (q read : ℕ) → Tried table x i q read → q ≢ 0 → settles table x i q ≡ false → (read' read'' : ℕ) → read' ≤ read + searches_cost table x q (i
-      - 1) → read'' + anchor_below table x (2 * q + 1 - i) ≤ read' + (2 * q + 1 - i) + 1 → ((2 * q + 1 - i) ≤ 1 → read'' ≡ read') → Tried table x i
-      (anchor_below table x (2 * q + 1 - i)) read''
+  pub tried_next : (q read : ℕ) (tried : Tried table x i q read) → q ≢ 0 → settles table x i q ≡ false → (read' read'' : ℕ) → read' ≤ read + searches_cost table x q (i
+      - 1) + 2 →
+      read'' + anchor_below table x (2 * q + 1 - i) ≤ read' + (2 * q + 1 - i) + 1 → ((2 * q + 1 - i) ≤ 1 → read'' ≡ read') →
+      (next : Tried table x i (anchor_below table x (2 * q + 1 - i)) read'') × (next.done ≡ tried.done ++ q ∷ [])
   tried_next q read tried other fails read' read'' searched walked near = of tried.most tried.whole tried.enough
     where
+      next : ℕ
+      next = anchor_below table x (2 * q + 1 - i)
+
       before : q + 3 ≤ i
       before = ⊎_elim (λ zero. absurd (other zero)) (λ far. far) tried.far
 
-      of : (most : ℕ) → tries table x i ≡ tried.done ++ tries_from table x i most q → q ≤ most → Tried table x i (anchor_below table x (2 * q + 1 - i)) read''
+      -- a walk of at most one step reads nothing
+      walk : read'' + anchor_below table x (2 * q + 1 - i) + (1 - (2 * q + 1 - i)) ≤ read' + (2 * q + 1 - i) + 1
+      walk = ⊎_elim (λ long. omega (arith, walked)) (λ few. omega (arith, near few, lies (2 * q + 1 - i))) (cases_lt 1 (2 * q + 1 - i))
+
+      of : (most : ℕ) → tries table x i ≡ tried.done ++ tries_from table x i most q → q ≤ most →
+          (next : Tried table x i (anchor_below table x (2 * q + 1 - i)) read'') × (next.done ≡ tried.done ++ q ∷ [])
       of zero whole enough = absurd (other (omega arith))
       of (suc most) whole enough =
           let apart = before in
+          let read_least = walk in
           let cost = tried.cost in
           let sum = sum_by_push (λ p. searches_cost table x p (i - 1)) tried.done q in
-          record {
+          (
+            record {
             done = tried.done ++ q ∷ [];
             most = most;
             whole =
@@ -76,12 +93,25 @@ module _ (table : Table) (valid : IsValidTable table) (x : List ℕ) (i : ℕ) w
             enough = ⊎_elim (λ zero. omega arith) (λ less. omega arith) (lies (2 * q + 1 - i));
             anchor = (anchor_is table valid x (2 * q + 1 - i)).anchor;
             far = ⊎_elim (λ zero. inl zero) (λ less. inr (omega arith)) (lies (2 * q + 1 - i));
-            cost =
-                ⊎_elim
-                (λ none. omega (arith, near (omega arith), lies (2 * q + 1 - i)))
-                (λ some. ⊎_elim (λ zero. omega arith) (λ less. omega arith) (lies (2 * q + 1 - i)))
-                (cases_lt (2 * q + 1 - i) 2);
-          }
+            cost = ⊎_elim (λ zero. omega arith) (λ less. omega arith) (lies (2 * q + 1 - i));
+            },
+            refl,
+          )
+
+  -- the cost, where this try is the last
+  pub last_cost_is : (q read : ℕ) (tried : Tried table x i q read) → settles table x i q ≡ true → back_cost table x i
+      ≡ 2 * (i - q) + (sum_by (λ p. searches_cost table x p (i - 1)) tried.done + searches_cost table x q (i - 1))
+  last_cost_is q read tried holds =
+      let whole : tries table x i ≡ tried.done ++ q ∷ [] = tried.whole ∙ ap (λ l. tried.done ++ l) (ends tried.most) in
+      omega (
+        arith,
+        ap last_of whole ∙ last_joined tried.done q [],
+        ap (sum_by (λ p. searches_cost table x p (i - 1))) whole ∙ sum_by_push (λ p. searches_cost table x p (i - 1)) tried.done q,
+      )
+    where
+      ends : (most : ℕ) → tries_from table x i most q ≡ q ∷ []
+      ends zero = refl
+      ends (suc most) = cond-true (settles table x i q) (q ∷ []) (q ∷ tries_from table x i most (anchor_below table x (2 * q + 1 - i))) holds
 
   -- they begin with it
   starts_with : (most q : ℕ) → (rest : List ℕ) × (tries_from table x i most q ≡ q ∷ rest)
@@ -101,10 +131,35 @@ module _ (table : Table) (valid : IsValidTable table) (x : List ℕ) (i : ℕ) w
       cond_both {A = List ℕ} (settles table x i q) (q ∷ []) (q ∷ tries_from table x i most (anchor_below table x (2 * q + 1 - i)))
       (λ l. last_of l ≤ q) (λ _. omega arith) (λ _. omega (arith, ap (λ l. last_of (q ∷ l)) starts.1, ap last_of starts.1, rest))
 
+  pub far_first : (read : ℕ) → 0 < i → read + 2 * anchor_below table x (i - 2) ≤ 2 * i → TriedFar table x i (anchor_below table x (i - 2)) read
+  far_first read some walked = record {
+    tried = tried_first 0 some (⊎_elim (λ zero. omega arith) (λ less. omega arith) (lies (i - 2))) (λ _. refl);
+    cost = omega arith;
+  }
+
+  pub far_next : (q read : ℕ) → TriedFar table x i q read → q ≢ 0 → settles table x i q ≡ false → (read' read'' : ℕ) → read' ≤ read + searches_cost table x q (i - 1) →
+      read'' + anchor_below table x (2 * q + 1 - i) ≤ read' + (2 * q + 1 - i) + 1 → ((2 * q + 1 - i) ≤ 1 → read'' ≡ read') →
+      TriedFar table x i (anchor_below table x (2 * q + 1 - i)) read''
+  far_next q read far other fails read' read'' searched walked near =
+      let next = tried_next q 0 far.tried other fails 0 0 (omega arith) (⊎_elim (λ zero. omega arith) (λ less. omega arith) (lies (2 * q + 1 - i))) (λ _. refl) in
+      let before : q + 3 ≤ i = ⊎_elim (λ zero. absurd (other zero)) (λ far. far) far.tried.far in
+      let cost = far.cost in
+      let sum = sum_by_push (λ p. searches_cost table x p (i - 1)) far.tried.done q in
+      let done = ap (sum_by (λ p. searches_cost table x p (i - 1))) next.1 in
+      record {
+        tried = next.0;
+        cost =
+            ⊎_elim
+            (λ none. omega (arith, near (omega arith), lies (2 * q + 1 - i)))
+            (λ some. ⊎_elim (λ zero. omega arith) (λ less. omega arith) (lies (2 * q + 1 - i)))
+            (cases_lt (2 * q + 1 - i) 2);
+      }
+
   -- with the searches of this try no more was read than the cost allows, whether it is the last or not
-  pub tried_last : (q read : ℕ) → Tried table x i q read → (read' : ℕ) → read' ≤ read + searches_cost table x q (i - 1) → read' ≤ back_cost table x i
-  tried_last q read tried read' searched =
-      let cost = tried.cost in
+  pub far_last : (q read : ℕ) → TriedFar table x i q read → (read' : ℕ) → read' ≤ read + searches_cost table x q (i - 1) → read' ≤ back_cost table x i
+  far_last q read far read' searched =
+      let tried = far.tried in
+      let cost = far.cost in
       let up : q ≤ i = ⊎_elim (λ zero. omega arith) (λ far. omega arith) tried.far in
       let starts = starts_with tried.most q in
       let whole : tries table x i ≡ tried.done ++ q ∷ starts.0 = tried.whole ∙ ap (λ l. tried.done ++ l) starts.1 in

@@ -4,7 +4,7 @@ use Rattle.rbbi_model.specs.ValidTables.{IsValidTable}
 use Rattle.rbbi_model.specs.Costs.{anchor_below, searches_cost}
 use Rattle.rbbi_cache.specs.inner.Ready.{HasNoneBefore}
 use Rattle.rbbi_cache.proofs.Backward.{none_settles}
-use Rattle.rbbi_cache.proofs.TriedBack.{Tried, tried_first, tried_next, tried_last, start_is_last}
+use Rattle.rbbi_cache.proofs.TriedBack.{TriedFar, far_first, far_next, far_last, start_is_last}
 use Rattle.rbbi_cache.proofs.search_back.search_back.Goals as goal
 
 -- the anchor of a walk that goes back as far as it may
@@ -14,10 +14,10 @@ walked table x high place q same is = omega (arith, is, ap (anchor_below table x
 pub returns-in-Some-clause-cost : goal.returns-in-Some-clause-cost
 returns-in-Some-clause-cost g c =
     let back = c.read_back-back.ensures in
-    let tried = subst (λ q. Tried c.args.table.now (g.T.Chars.characters c.args.text.now) c.args.i q (c.read_back-back.new.steps - c.args.steps.now)) (sym back.near)
-    (tried_first c.args.table.now c.valid.ensures (g.T.Chars.characters c.args.text.now) c.args.i (c.read_back-back.new.steps - c.args.steps.now) c.requires.some
+    let tried = subst (λ q. TriedFar c.args.table.now (g.T.Chars.characters c.args.text.now) c.args.i q (c.read_back-back.new.steps - c.args.steps.now)) (sym back.near)
+    (far_first c.args.table.now c.valid.ensures (g.T.Chars.characters c.args.text.now) c.args.i (c.read_back-back.new.steps - c.args.steps.now) c.requires.some
     (omega (arith, back.near, back.cost, back.more))) in
-    let most = tried_last c.args.table.now c.valid.ensures (g.T.Chars.characters c.args.text.now) c.args.i c.read_back-back.result.near
+    let most = far_last c.args.table.now c.valid.ensures (g.T.Chars.characters c.args.text.now) c.args.i c.read_back-back.result.near
     (c.read_back-back.new.steps - c.args.steps.now) tried (c.search_wide.new.steps - c.args.steps.now) (omega (arith, back.more, c.in-Some.ensures.cost)) in
     omega (arith, most, back.more, c.in-Some.ensures.more)
 
@@ -26,8 +26,8 @@ tries-init g c =
     let back = c.read_back-back.ensures in
     record {
       before = c.read_back-back.new.steps - c.args.steps.now;
-      tried = subst (λ q. Tried c.args.table.now (g.T.Chars.characters c.args.text.now) c.args.i q (c.read_back-back.new.steps - c.args.steps.now)) (sym back.near)
-          (tried_first c.args.table.now c.valid.ensures (g.T.Chars.characters c.args.text.now) c.args.i (c.read_back-back.new.steps - c.args.steps.now) c.requires.some
+      tried = subst (λ q. TriedFar c.args.table.now (g.T.Chars.characters c.args.text.now) c.args.i q (c.read_back-back.new.steps - c.args.steps.now)) (sym back.near)
+          (far_first c.args.table.now c.valid.ensures (g.T.Chars.characters c.args.text.now) c.args.i (c.read_back-back.new.steps - c.args.steps.now) c.requires.some
           (omega (arith, back.near, back.cost, back.more)));
       searched = omega (arith, back.more, c.in_default.ensures.cost);
       none = c.in_default.ensures.found;
@@ -43,18 +43,18 @@ returns-then-anchor-eq0-clause-found g c =
 pub returns-then-anchor-eq0-clause-cost : goal.returns-then-anchor-eq0-clause-cost
 returns-then-anchor-eq0-clause-cost g c =
     let at = c.tries.invariant in
-    let most = tried_last c.args.table.now c.valid.ensures (g.T.Chars.characters c.args.text.now) c.args.i c.tries.anchor at.before at.tried
+    let most = far_last c.args.table.now c.valid.ensures (g.T.Chars.characters c.args.text.now) c.args.i c.tries.anchor at.before at.tried
     (c.tries.steps - c.args.steps.now) (omega (arith, at.searched, at.more)) in
     omega (arith, most, at.more)
 
 -- the next try, after a walk from the one before it
-tried_on : (table : Table) (valid : IsValidTable table) (x : List ℕ) (i q before start now : ℕ) → Tried table x i q before → q ≢ 0 → HasNoneBefore table x q i →
+tried_on : (table : Table) (valid : IsValidTable table) (x : List ℕ) (i q before start now : ℕ) → TriedFar table x i q before → q ≢ 0 → HasNoneBefore table x q i →
     start ≤ now → now ≤ start + before + searches_cost table x q (i - 1) → (high next now' : ℕ) → high ≡ 2 * q + 1 - i → next ≡ max 0 (anchor_below table x high) →
-    now ≤ now' → now' + next ≤ now + high + 1 → (high ≤ 0 + 1 → now' ≡ now) → Tried table x i next (now' - start)
+    now ≤ now' → now' + next ≤ now + high + 1 → (high ≤ 0 + 1 → now' ≡ now) → TriedFar table x i next (now' - start)
 tried_on table valid x i q before start now tried other none more searched high next now' high_is is rises read nothing =
     let same = walked table x high (2 * q + 1 - i) next high_is is in
-    subst (λ p. Tried table x i p (now' - start)) same
-    (tried_next table valid x i q before tried other (none_settles table x i q other none) (now - start) (now' - start)
+    subst (λ p. TriedFar table x i p (now' - start)) same
+    (far_next table valid x i q before tried other (none_settles table x i q other none) (now - start) (now' - start)
     (omega arith) (omega (arith, same)) (λ near. omega (arith, nothing (omega arith))))
 
 pub search_from-requires-clause-anchor : goal.search_from-requires-clause-anchor
@@ -63,7 +63,7 @@ search_from-requires-clause-anchor g c =
     let walk = c.anchor_before-anchor.ensures in
     (tried_on c.args.table.now c.valid.ensures (g.T.Chars.characters c.args.text.now) c.args.i c.tries.anchor at.before c.args.steps.now c.tries.steps at.tried c.if-anchor-eq0.false at.none at.more at.searched
     c.saturating_sub.result c.anchor_before-anchor.result c.anchor_before-anchor.new.steps c.saturating_sub.ensures walk.anchor walk.more walk.read
-    walk.nothing).anchor
+    walk.nothing).tried.anchor
 
 pub returns-in-Some-search_from-clause-cost : goal.returns-in-Some-search_from-clause-cost
 returns-in-Some-search_from-clause-cost g c =
@@ -72,7 +72,7 @@ returns-in-Some-search_from-clause-cost g c =
     let tried = tried_on c.args.table.now c.valid.ensures (g.T.Chars.characters c.args.text.now) c.args.i c.tries.anchor at.before c.args.steps.now c.tries.steps at.tried c.if-anchor-eq0.false at.none at.more
     at.searched c.saturating_sub.result c.anchor_before-anchor.result c.anchor_before-anchor.new.steps c.saturating_sub.ensures walk.anchor walk.more walk.read
     walk.nothing in
-    let most = tried_last c.args.table.now c.valid.ensures (g.T.Chars.characters c.args.text.now) c.args.i c.anchor_before-anchor.result
+    let most = far_last c.args.table.now c.valid.ensures (g.T.Chars.characters c.args.text.now) c.args.i c.anchor_before-anchor.result
     (c.anchor_before-anchor.new.steps - c.args.steps.now) tried (c.search_from.new.steps - c.args.steps.now)
     (omega (arith, at.more, walk.more, c.search_from.ensures.cost)) in
     omega (arith, most, at.more, walk.more, c.search_from.ensures.more)

@@ -103,7 +103,7 @@ tries-preserved g c =
             c.anchor_before-anchor-in-tries.ensures.read,
             c.anchor_before-anchor-in-tries.ensures.more,
           ))
-          (λ near. omega (arith, c.anchor_before-anchor-in-tries.ensures.nothing (omega (arith, near, c.saturating_sub-in-tries.ensures)))));
+          (λ near. omega (arith, c.anchor_before-anchor-in-tries.ensures.nothing (omega (arith, near, c.saturating_sub-in-tries.ensures))))).0;
       more = omega (arith, c.tries.invariant.more, found.more, c.anchor_before-anchor-in-tries.ensures.more);
       table_is = found.moved.table_is;
       text_is = text_is;
