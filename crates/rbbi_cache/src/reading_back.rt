@@ -25,10 +25,12 @@ pub(crate) struct Back {
     pub(crate) start: usize,
 }
 
-/// Reads back from a place to the greatest anchor three characters before it or more, and then on
-/// to twice as far, but 64 characters in all. The categories are kept at the end of the slots.
+/// Reads back, from two characters before a place on, to the greatest anchor three characters before
+/// it or more, and then on to three times as far, but 64 characters in all. The categories are kept
+/// at the end of the slots.
 ///
-/// The bound on what `before` reads counts each character back to the anchor twice.
+/// The bound on what `before` reads counts each character back to the anchor twice beside the
+/// searches from there, and these read none of the characters again whose categories are kept.
 pub(crate) fn read_back<T: Chars, L: Ledger>(
     table: &Table,
     text: &T,
@@ -46,10 +48,11 @@ pub(crate) fn read_back<T: Chars, L: Ledger>(
     ensures back { AreBack table.now (T.characters text.now) i result.near result.wide result.from
         (drop result.start slots.new) }
     ensures more { steps.old ≤ steps.new }
-    ensures cost { steps.new + 2 * result.near ≤ steps.old + 2 * i }
+    ensures cost { result.from ≤ result.near → steps.new + 3 * result.near + 1 ≤ steps.old + 3 * i }
+    ensures walk { result.near < result.from → steps.new + 2 * result.near ≤ steps.old + 2 * i }
 {
     table.valid();
-    let end = text.len().min(i + 1);
+    let end = i - 1;
     let mut least = end.saturating_sub(MOST_READ);
     let mut near = 0;
     let mut wide = 0;
@@ -62,7 +65,7 @@ pub(crate) fn read_back<T: Chars, L: Ledger>(
         if place + 2 < i && table.is_safe(here, next) {
             if near == 0 {
                 near = place;
-                least = least.max((2 * place + 1).saturating_sub(i));
+                least = least.max((3 * place).saturating_sub(2 * i));
             }
             wide = place;
         }
