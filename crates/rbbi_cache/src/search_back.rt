@@ -1,10 +1,11 @@
 //! The last boundary before a place: found by searches from anchors farther and farther back.
-ghost use Rattle.std.specs.Prelude.{◌≡◌, ℕ, ◌+◌, ◌-◌, ◌<◌, ◌≤◌, ◌⊎◌, length, drop, List};
+ghost use Rattle.std.specs.Prelude.{◌≡◌, ℕ, ◌+◌, ◌-◌, ◌*◌, ◌<◌, ◌≤◌, ◌⊎◌, length, List};
 ghost use Rattle.std.specs.Prelude.{MatchOption};
 ghost use Rattle.rbbi_model.specs.Words.{most_characters};
+ghost use Rattle.rbbi_model.specs.ValidTables.{IsValidTable};
 ghost use Rattle.rbbi_model.specs.Runs as model;
 ghost use Rattle.rbbi_model.specs.Runs.{IsAnchor};
-ghost use Rattle.rbbi_model.specs.Costs.{searches_cost, back_cost};
+ghost use Rattle.rbbi_model.specs.Costs.{anchor_below, searches_cost, back_cost};
 ghost use Rattle.rbbi_cache.specs.Kept.{IsLastBefore};
 ghost use Rattle.rbbi_cache.specs.inner.Back.{AreBack};
 ghost use Rattle.rbbi_cache.specs.inner.Lists.{StandsLastButOne};
@@ -15,7 +16,7 @@ use crate::reading_back::{Back, read_back};
 use crate::scan::scan;
 use crate::wide::fill_from;
 use crate::{Entry, Run};
-use rbbi_table::{FrontPlaces, Table};
+use rbbi_table::{FrontPlaces, ShortTable, Table};
 use rbbi_text::{Chars, Steps};
 use std::sync::ledger::Ledger;
 
@@ -48,11 +49,11 @@ pub(crate) fn search_back<T: Chars, L: Ledger>(
     ensures fit { marks.new ≡ marks.old }
 {
     table.valid();
-    let back = read_back(table, text, i, slots, steps);
-    if let Some(entry) = search_wide(table, text, back, slots, i, floor, run, marks, steps) {
+    let first = first_try(table, text, i, floor, run, slots, marks, steps);
+    if let Some(entry) = first.found {
         return Some(entry);
     }
-    let mut anchor = back.near;
+    let mut anchor = first.anchor;
     'tries: loop {
         if anchor == 0 {
             return None;
@@ -64,43 +65,108 @@ pub(crate) fn search_back<T: Chars, L: Ledger>(
     }
 }
 
-/// As `search_from`, from the near anchor. Where it can, it begins at the wide one and finds more.
-fn search_wide<T: Chars, L: Ledger>(
+/// The anchor of the first try, and the last boundary before `i`, if one was found from there.
+#[derive(Drop)]
+struct First {
+    anchor: u32,
+    found: Option<Entry>,
+}
+
+/// Makes the first try. Over a short table it reads back three times as far, if it can, and then
+/// mostly finds several boundaries before `i`.
+fn first_try<T: Chars, L: Ledger>(
     table: &Table,
     text: &T,
-    back: Back,
-    slots: &[u16],
     i: u32,
     floor: u32,
     run: &mut Run,
+    slots: &mut [u16],
     marks: &mut FrontPlaces,
     steps: &mut Steps<L>,
-) -> Option<Entry>
+) -> First
     requires fit { marks.old ≡ table.now.slashes }
+    requires room { length slots.old ≡ 64 }
     requires some { 0 < i }
     requires within { i ≤ length (T.characters text.now) }
     requires small { i ≤ most_characters }
     requires floor { IsFloor table.now (T.characters text.now) floor i }
-    requires start { back.start ≤ length slots.now }
+    ensures anchor { result.anchor ≡ anchor_below table.now (T.characters text.now) (i - 2) }
+    ensures found { MatchOption result.found
+        (HasNoneBefore table.now (T.characters text.now) result.anchor i)
+        (λ entry. (kept : List model.Run) →
+        IsReadyBefore table.now (T.characters text.now) i kept entry run.new) }
+    ensures more { steps.old ≤ steps.new }
+    ensures cost { steps.new ≤ steps.old + (2 * (i - result.anchor)
+        + searches_cost table.now (T.characters text.now) result.anchor (i - 1)) }
+    ensures fit { marks.new ≡ marks.old }
+{
+    table.valid();
+    let Some(short) = table.short() else {
+        let anchor = anchor_before(table, text, 0, i.saturating_sub(2), steps);
+        let found = search_from(table, text, anchor, i, floor, run, marks, steps);
+        return First { anchor, found };
+    };
+    let back = read_back(table, text, i, slots, steps);
+    let found = if back.from <= back.near {
+        search_read(
+            &short,
+            text,
+            back,
+            &slots[back.start..],
+            i,
+            floor,
+            run,
+            steps,
+        )
+    } else {
+        search_from(table, text, back.near, i, floor, run, marks, steps)
+    };
+    First {
+        anchor: back.near,
+        found,
+    }
+}
+
+/// As `search_from`, from the near anchor, over what was read back. If it can, it begins at the wide
+/// one and finds more.
+fn search_read<T: Chars, L: Ledger>(
+    table: &ShortTable<'_>,
+    text: &T,
+    back: Back,
+    categories: &[u16],
+    i: u32,
+    floor: u32,
+    run: &mut Run,
+    steps: &mut Steps<L>,
+) -> Option<Entry>
+    requires valid { IsValidTable table.now }
+    requires some { 0 < i }
+    requires within { i ≤ length (T.characters text.now) }
+    requires small { i ≤ most_characters }
+    requires floor { IsFloor table.now (T.characters text.now) floor i }
     requires back { AreBack table.now (T.characters text.now) i back.near back.wide back.from
-        (drop back.start slots.now) }
+        categories.now }
+    requires covered { back.from ≤ back.near }
     ensures found { MatchOption result
         (HasNoneBefore table.now (T.characters text.now) back.near i)
         (λ entry. (kept : List model.Run) →
         IsReadyBefore table.now (T.characters text.now) i kept entry run.new) }
     ensures more { steps.old ≤ steps.new }
-    ensures cost { steps.new
+    ensures cost { steps.new + (i - 1 - back.near)
         ≤ steps.old + searches_cost table.now (T.characters text.now) back.near (i - 1) }
-    ensures fit { marks.new ≡ marks.old }
 {
-    table.valid();
     if back.wide < back.near && back.wide < floor {
-        let read = &slots[back.start..];
-        if fill_from(table, text, back, read, run, i, marks, steps) {
+        if fill_from(table, text, back, categories, back.wide, run, i, steps) {
             return last_but_one(run);
         }
     }
-    search_from(table, text, back.near, i, floor, run, marks, steps)
+    if back.near > 0 && back.near >= floor {
+        return None;
+    }
+    if !fill_from(table, text, back, categories, back.near, run, i, steps) {
+        unreachable!();
+    }
+    last_but_one(run)
 }
 
 /// The entry that stands last but one, if there are so many.
