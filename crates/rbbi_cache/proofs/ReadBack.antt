@@ -22,12 +22,12 @@ pub record FindsNone (table : Table) (x : List ℕ) (i end place least near wide
   pub to : least ≡ end - 64
   pub none : (p : ℕ) → 0 < p → place ≤ p → p < i - 2 → is_anchor table x p ≡ false
 
--- Two anchors were found, of which the first is the greatest. Reading goes on to no farther than twice as far from i.
+-- Two anchors were found, of which the first is the greatest. Reading goes on to no farther than three times as far from i.
 pub record FindsSome (table : Table) (x : List ℕ) (i place least near wide : ℕ) : Type 0 where
   pub some : 0 < near
   pub greatest : anchor_below table x (i - 2) ≡ near
   pub far : near + 3 ≤ i
-  pub to : 2 * near + 1 ≤ i + least
+  pub to : 3 * near ≤ 2 * i + least
   pub near_is : IsAnchor table x near
   pub wide_is : IsAnchor table x wide
   pub from : place ≤ wide
@@ -149,7 +149,7 @@ module _ (table : Table) (x : List ℕ) where
           finds
 
       module _ (holds : is_safe table here next ≡ true) (pair : IsSafePair table here next) where
-        pub finds_first : near ≡ 0 → (to : ℕ) → to ≡ max least (2 * (place - 1) + 1 - i) → Finds table x i end (place - 1) to (place - 1) (place - 1)
+        pub finds_first : near ≡ 0 → (to : ℕ) → to ≡ max least (3 * (place - 1) - 2 * i) → Finds table x i end (place - 1) to (place - 1) (place - 1)
         finds_first is to to_is =
             ⊎_elim
             (λ found.
@@ -196,7 +196,7 @@ module _ (table : Table) (x : List ℕ) where
 
   module _ (i end place least near wide : ℕ) (within : i ≤ length x) (some : 0 < i) where
     -- where nothing was found, a walk from there goes on
-    pub goes_on : Finds table x i end place least near wide → near ≡ 0 → 0 < place → place ≤ least → end ≤ i + 1 → (found : ℕ) →
+    pub goes_on : Finds table x i end place least near wide → near ≡ 0 → 0 < place → place ≤ least → end ≡ i - 1 → (found : ℕ) →
         found ≡ max 0 (anchor_below table x place) → anchor_below table x (i - 2) ≡ found
     goes_on finds is past ends late found found_is =
         ⊎_elim
@@ -219,9 +219,24 @@ module _ (table : Table) (x : List ℕ) where
         (λ found. found.greatest)
         finds
 
+    -- what was read reaches to the anchors, and no farther than three times as far from i
+    pub covers : Finds table x i end place least near wide → (near ≡ 0 → place ≡ 0) → least ≤ place → (place ≤ near) × (3 * near ≤ 2 * i + place)
+    covers finds ends past =
+        ⊎_elim
+        (λ found.
+        let is = found.near_is in
+        let first = ends is in
+        (omega arith, omega arith))
+        (λ found.
+        let from = found.from in
+        let order = found.order in
+        let to = found.to in
+        (omega arith, omega arith))
+        finds
+
     pub are_back : (categories : List ℕ) → Finds table x i end place least near wide → AreRead table x place categories →
-        AreBack table x i near wide place categories
-    are_back categories finds read =
+        place + length categories ≡ i - 1 → AreBack table x i near wide place categories
+    are_back categories finds read count =
         ⊎_elim
         (λ found.
         let is = found.near_is in
@@ -231,7 +246,8 @@ module _ (table : Table) (x : List ℕ) where
           wide_is = inl same;
           order = omega arith;
           far = inl is;
-          read = λ less. absurd (omega arith);
+          read = λ less. (read, omega arith);
+          end = λ less. count;
         })
         (λ found.
         record {
@@ -240,12 +256,14 @@ module _ (table : Table) (x : List ℕ) where
           order = found.order;
           far = inr found.far;
           read = λ less. (read, found.from);
+          end = λ less. count;
         })
         finds
 
   -- the greatest anchor alone, found by a walk
-  pub is_back : IsValidTable table → (i near from : ℕ) (categories : List ℕ) → anchor_below table x (i - 2) ≡ near → AreBack table x i near near from categories
-  is_back valid i near from categories is =
+  pub is_back : IsValidTable table → (i near from : ℕ) (categories : List ℕ) → anchor_below table x (i - 2) ≡ near → near < from →
+      AreBack table x i near near from categories
+  is_back valid i near from categories is less_than =
       let lies = subst (IsAnchorBelow table x (i - 2)) is (anchor_is table valid x (i - 2)) in
       record {
         near_is = lies.anchor;
@@ -253,4 +271,10 @@ module _ (table : Table) (x : List ℕ) where
         order = omega arith;
         far = ⊎_elim (λ is. inl is) (λ less. inr (omega arith)) lies.below;
         read = λ less. absurd (omega arith);
+        end = λ less. absurd (omega arith);
       }
+
+  -- it lies before the place that the walk began at
+  pub walked_below : IsValidTable table → (place near : ℕ) → 0 < place → near ≡ max 0 (anchor_below table x place) → near < place
+  walked_below valid place near some is =
+      ⊎_elim (λ zero. omega arith) (λ less. omega arith) (anchor_is table valid x place).below
