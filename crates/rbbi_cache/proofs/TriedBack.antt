@@ -80,19 +80,20 @@ module _ (table : Table) (valid : IsValidTable table) (x : List ℕ) (i : ℕ) w
           let apart = before in
           let read_least = walk in
           let cost = tried.cost in
-          let sum = sum_by_push (λ p. searches_cost table x p (i - 1)) tried.done q in (
+          let sum = sum_by_push (λ p. searches_cost table x p (i - 1)) tried.done q in
+          (
             record {
-              done = tried.done ++ q ∷ [];
-              most = most;
-              whole =
-                  whole
-                  ∙ ap (λ l. tried.done ++ l) (cond-false (settles table x i q) (q ∷ []) (q ∷ tries_from table x i most (anchor_below table x (2 * q + 1 - i)))
-                  fails)
-                  ∙ sym (append_assoc tried.done (q ∷ []) (tries_from table x i most (anchor_below table x (2 * q + 1 - i))));
-              enough = ⊎_elim (λ zero. omega arith) (λ less. omega arith) (lies (2 * q + 1 - i));
-              anchor = (anchor_is table valid x (2 * q + 1 - i)).anchor;
-              far = ⊎_elim (λ zero. inl zero) (λ less. inr (omega arith)) (lies (2 * q + 1 - i));
-              cost = ⊎_elim (λ zero. omega arith) (λ less. omega arith) (lies (2 * q + 1 - i));
+            done = tried.done ++ q ∷ [];
+            most = most;
+            whole =
+                whole
+                ∙ ap (λ l. tried.done ++ l) (cond-false (settles table x i q) (q ∷ []) (q ∷ tries_from table x i most (anchor_below table x (2 * q + 1 - i)))
+                fails)
+                ∙ sym (append_assoc tried.done (q ∷ []) (tries_from table x i most (anchor_below table x (2 * q + 1 - i))));
+            enough = ⊎_elim (λ zero. omega arith) (λ less. omega arith) (lies (2 * q + 1 - i));
+            anchor = (anchor_is table valid x (2 * q + 1 - i)).anchor;
+            far = ⊎_elim (λ zero. inl zero) (λ less. inr (omega arith)) (lies (2 * q + 1 - i));
+            cost = ⊎_elim (λ zero. omega arith) (λ less. omega arith) (lies (2 * q + 1 - i));
             },
             refl,
           )
