@@ -1,6 +1,6 @@
 -- The walk back that reads many characters at once.
-use Rattle.std.proofs.Common.{◌≡◌, ◌≢◌, ℕ, zero, suc, ◌+◌, ◌-◌, ◌*◌, ◌<◌, ◌≤◌, max, ◌⊎◌, Bool, true, false, List, Some, length, drop, length-drop}
-use Rattle.std.proofs.Common.{inl, inr, ap, ◌∙◌, sym, subst, ⊎_elim, arith}
+use Rattle.std.proofs.Common.{◌≡◌, ◌≢◌, ℕ, zero, suc, ◌+◌, ◌-◌, ◌<◌, ◌≤◌, max, Bool, true, false, List, Some, length, drop, length-drop}
+use Rattle.std.proofs.Common.{inl, inr, refl, ap, ◌∙◌, sym, subst, ⊎_elim, arith}
 use Rattle.std.specs.Prelude.{slice_index, slice_set, unwrap_or}
 use Rattle.std.proofs.lemmas.Bool.{cases_eq, cond-false}
 use Rattle.std.proofs.lemmas.List.{get_or-set_same, get_or-set_other, get_or-drop}
@@ -11,36 +11,17 @@ use Rattle.rbbi_model.specs.ValidTables.{IsValidTable}
 use Rattle.rbbi_model.specs.Runs.{category_at, IsAnchor, is_anchor}
 use Rattle.rbbi_model.specs.Costs.{anchor_below}
 use Rattle.rbbi_table.specs.Reading.{AreRead}
-use Rattle.rbbi_cache.specs.inner.Back.{AreBack}
+use Rattle.rbbi_cache.specs.inner.Back.{AreBack, EndWith, HasNoneFrom, IsNear}
 use Rattle.rbbi_cache.proofs.Walks.{WalksBack, walk_goes, walk_ends, none_past}
 use Rattle.rbbi_cache.proofs.Ready.{IsAnchorBelow, anchor_is}
 
--- Down to a place no anchor was found, but that 0 is always one. Reading goes on to 64 characters before the end.
-pub record FindsNone (table : Table) (x : List ℕ) (i end place least near wide : ℕ) : Type 0 where
-  pub near_is : near ≡ 0
-  pub wide_is : wide ≡ 0
-  pub to : least ≡ end - 64
-  pub none : (p : ℕ) → 0 < p → place ≤ p → p < i - 2 → is_anchor table x p ≡ false
-
--- Two anchors were found, of which the first is the greatest. Reading goes on to no farther than twice as far from i.
-pub record FindsSome (table : Table) (x : List ℕ) (i place least near wide : ℕ) : Type 0 where
-  pub some : 0 < near
-  pub greatest : anchor_below table x (i - 2) ≡ near
-  pub far : near + 3 ≤ i
-  pub to : 2 * near + 1 ≤ i + least
-  pub near_is : IsAnchor table x near
-  pub wide_is : IsAnchor table x wide
-  pub from : place ≤ wide
-  pub order : wide ≤ near
-
-abbrev pub Finds : Table → List ℕ → (i end place least near wide : ℕ) → Type 0
-Finds table x i end place least near wide = FindsNone table x i end place least near wide ⊎ FindsSome table x i place least near wide
-
--- the slots end with the categories of the characters from a place on to an end, of which the last one read is kept
-pub record KeepsBack (table : Table) (x : List ℕ) (end place next : ℕ) (slots : List ℕ) : Type 0 where
-  pub each : (p : ℕ) → place ≤ p → p < end → slice_index slots (p + 64 - end) ≡ category_at table x p
-  pub next_is : place < end → next ≡ category_at table x place
-  pub within : place < end → next < table.categories
+-- Reading back from an end has come to a place, with its category, and passed no anchor two characters before the end or more.
+pub record Nears (table : Table) (x : List ℕ) (end place next : ℕ) (slots : List ℕ) : Type 0 where
+  pub below : place < end
+  pub next_is : next ≡ category_at table x place
+  pub within : next < table.categories
+  pub none : (p : ℕ) → 0 < p → place ≤ p → p < end - 1 → is_anchor table x p ≡ false
+  pub kept : EndWith table x place end slots
 
 -- where the test fails from a place on, nothing is found past it
 same_below : (test : ℕ → Bool) (place high : ℕ) → place ≤ high → ((p : ℕ) → place ≤ p → p < high → test p ≡ false) →
@@ -55,197 +36,175 @@ same_below test place (suc high) order none =
     (cases_eq place (suc high))
 
 module _ (table : Table) (x : List ℕ) where
-  module _ (end place next : ℕ) (slots : List ℕ) (kept : KeepsBack table x end place next slots) (order : place ≤ end) (many : length slots ≡ 64) where
+  pub ends_empty : (end : ℕ) (slots : List ℕ) → EndWith table x end end slots
+  ends_empty end slots = record { each = λ p from less. absurd (omega arith); within = λ p from less. absurd (omega arith) }
+
+  module _ (end place : ℕ) (slots : List ℕ) (kept : EndWith table x place end slots) (order : place ≤ end) (many : length slots ≡ 64) where
     pub keeps_more : (here : ℕ) → 0 < place → end ≤ place - 1 + 64 → here ≡ category_at table x (place - 1) → here < table.categories →
-        KeepsBack table x end (place - 1) here (slice_set slots (place - 1 + 64 - end) here)
-    keeps_more here some room here_is fits = record {
-      next_is = λ less. here_is;
-      within = λ less. fits;
+        (slot : ℕ) → slot ≡ place - 1 + 64 - end → EndWith table x (place - 1) end (slice_set slots slot here)
+    keeps_more here some room here_is fits slot slot_is = record {
       each = λ p from less. ⊎_elim
-          (λ is.
-          ap (λ q. slice_index (slice_set slots (place - 1 + 64 - end) here) (q + 64 - end)) is
-          ∙ get_or-set_same slots (place - 1 + 64 - end) here 0 (omega arith)
-          ∙ here_is
-          ∙ ap (category_at table x) (sym is))
-          (λ other.
-          get_or-set_other slots (place - 1 + 64 - end) (p + 64 - end) here 0 (λ same. other (omega arith)) ∙ kept.each p (omega arith) less)
+          (λ is. get p is ∙ here_is ∙ ap (category_at table x) (sym is))
+          (λ other. past p from other ∙ kept.each p (omega arith) less)
+          (cases_eq p (place - 1));
+      within = λ p from less. ⊎_elim
+          (λ is. subst (λ c. c < table.categories) (sym (get p is)) fits)
+          (λ other. subst (λ c. c < table.categories) (sym (past p from other)) (kept.within p (omega arith) less))
           (cases_eq p (place - 1));
     }
+      where
+        get : (p : ℕ) → p ≡ place - 1 → slice_index (slice_set slots slot here) (p + 64 - end) ≡ here
+        get p is =
+            let there : p + 64 - end ≡ slot = omega arith in
+            ap (slice_index (slice_set slots slot here)) there ∙ get_or-set_same slots slot here 0 (omega arith)
 
-    pub are_read : end ≤ length x → end ≤ place + 64 → AreRead table x place (drop (place + 64 - end) slots)
-    are_read within room =
-        let count : length (drop (place + 64 - end) slots) ≡ end - place = omega (arith, length-drop (place + 64 - end) slots) in
+        past : (p : ℕ) → place - 1 ≤ p → p ≢ place - 1 → slice_index (slice_set slots slot here) (p + 64 - end) ≡ slice_index slots (p + 64 - end)
+        past p from other = get_or-set_other slots slot (p + 64 - end) here 0 (λ same. other (omega arith))
+
+    pub are_read : end ≤ length x → end ≤ place + 64 → (start : ℕ) → start ≡ place + 64 - end → AreRead table x place (drop start slots)
+    are_read within room start start_is =
+        let count : length (drop start slots) ≡ end - place = omega (arith, length-drop start slots) in
         record {
           within = omega arith;
           each = λ k less.
-              let there : place + 64 - end + k ≡ place + k + 64 - end = omega arith in
-              get_or-drop (place + 64 - end) slots k 0 ∙ ap (slice_index slots) there ∙ kept.each (place + k) (omega arith) (omega arith);
+              let there : start + k ≡ place + k + 64 - end = omega arith in
+              get_or-drop start slots k 0 ∙ ap (slice_index slots) there ∙ kept.each (place + k) (omega arith) (omega arith);
         }
 
-  some_goes : (i place least near wide : ℕ) → FindsSome table x i place least near wide → FindsSome table x i (place - 1) least near wide
-  some_goes i place least near wide found =
-      let from = found.from in
-      record {
-        some = found.some;
-        greatest = found.greatest;
-        far = found.far;
-        to = found.to;
-        near_is = found.near_is;
-        wide_is = found.wide_is;
-        from = omega arith;
-        order = found.order;
-      }
+    -- the slots of a safe pair are those of an anchor
+    pub anchor_of : end ≤ length x → end ≤ place + 64 → (p slot : ℕ) → place ≤ p → p + 2 ≤ end → slot ≡ p + 64 - end →
+        IsSafePair table (slice_index slots slot) (slice_index slots (slot + 1)) → IsAnchor table x p
+    anchor_of within room p slot from two slot_is pair =
+        let here : slice_index slots slot ≡ category_at table x p = ap (slice_index slots) slot_is ∙ kept.each p from (omega arith) in
+        let there : slot + 1 ≡ p + 1 + 64 - end = omega arith in
+        let next : slice_index slots (slot + 1) ≡ category_at table x (p + 1) = ap (slice_index slots) there ∙ kept.each (p + 1) (omega arith) (omega arith) in
+        inr (
+          omega arith,
+          subst (λ c. IsSafePair table (category_at table x p) c) next (subst (λ c. IsSafePair table c (slice_index slots (slot + 1))) here pair),
+        )
 
-  -- where the place is less than three characters before i, no pair is looked at
-  pub finds_near : (i end place least near wide : ℕ) → i ≤ place - 1 + 2 → Finds table x i end place least near wide →
-      Finds table x i end (place - 1) least near wide
-  finds_near i end place least near wide close finds =
-      ⊎_elim
-      (λ found.
-      inl
-      (record { near_is = found.near_is; wide_is = found.wide_is; to = found.to; none = λ p some from less. absurd (omega arith) }))
-      (λ found. inr (some_goes i place least near wide found))
-      finds
+    -- what the slots from one on have are categories
+    pub fits_from : end ≤ place + 64 → (k : ℕ) → place + 64 - end ≤ k → k < 64 → slice_index slots k < table.categories
+    fits_from room k from less =
+        let there : k ≡ k + end - 64 + 64 - end = omega arith in
+        subst (λ q. slice_index slots q < table.categories) (sym there) (kept.within (k + end - 64) (omega arith) (omega arith))
+
+  -- the first character is read, and no pair is looked at
+  pub nears_first : (end : ℕ) (slots : List ℕ) → 0 < end → length slots ≡ 64 → (next : ℕ) → next ≡ category_at table x (end - 1) → next < table.categories →
+      Nears table x end (end - 1) next (slice_set slots 63 next)
+  nears_first end slots some many next next_is fits = record {
+    below = omega arith;
+    next_is = next_is;
+    within = fits;
+    none = λ p past from less. absurd (omega arith);
+    kept = keeps_more end end slots (ends_empty end slots) (omega arith) many next some (omega arith) next_is fits 63 (omega arith);
+  }
 
   -- a pair is looked at
-  module _ (i end place least near wide here next : ℕ) (within : i ≤ length x) (some : 0 < place) (early : place - 1 + 2 < i)
-      (here_is : here ≡ category_at table x (place - 1)) (next_is : next ≡ category_at table x place)
-      (finds : Finds table x i end place least near wide)
+  module _ (end place next : ℕ) (slots : List ℕ) (within : end ≤ length x) (nears : Nears table x end place next slots) (some : 0 < place)
+      (many : length slots ≡ 64) (room : end ≤ place - 1 + 64)
+      (here : ℕ) (here_is : here ≡ category_at table x (place - 1)) (fits : here < table.categories) (slot : ℕ) (slot_is : slot ≡ place - 1 + 64 - end)
     where
       after : place ≡ place - 1 + 1
       after = omega arith
 
-      walk : FindsNone table x i end place least near wide → WalksBack table x (i - 2) (place - 1) next
-      walk found = record {
+      below : place < end
+      below = nears.below
+
+      walk : WalksBack table x (end - 1) (place - 1) next
+      walk = record {
         below = omega arith;
-        category = next_is ∙ ap (category_at table x) after;
-        none = λ p past less. found.none p (omega arith) (omega arith) less;
+        category = nears.next_is ∙ ap (category_at table x) after;
+        none = λ p past less. nears.none p (omega arith) (omega arith) less;
       }
 
-      anchor : IsSafePair table here next → IsAnchor table x (place - 1)
-      anchor pair = inr (
-        omega arith,
-        subst (λ c. IsSafePair table (category_at table x (place - 1)) c) (next_is ∙ ap (category_at table x) after)
-            (subst (λ c. IsSafePair table c next) here_is pair),
+      pub kept_on : EndWith table x (place - 1) end (slice_set slots slot here)
+      kept_on = keeps_more end place slots nears.kept (omega arith) many here some room here_is fits slot slot_is
+
+      pub nears_on : is_safe table here next ≡ false → Nears table x end (place - 1) here (slice_set slots slot here)
+      nears_on fails = record {
+        below = omega arith;
+        next_is = here_is;
+        within = fits;
+        none = λ p past from less. ⊎_elim
+            (λ first. nears.none p past (omega arith) less)
+            (λ other. (walk_goes table x (end - 1) (omega arith) (place - 1) next here walk (omega arith) here_is fails).none p (omega arith) less)
+            (cases_eq (place - 1) 0);
+        kept = kept_on;
+      }
+
+      pub near_found : is_safe table here next ≡ true → IsSafePair table here next → IsNear table x end (place - 1)
+      near_found holds pair = record {
+        greatest = ⊎_elim
+            (λ first. omega (arith, none_past table x (end - 1) (omega arith) 0 (λ p past less. nears.none p past (omega arith) less)))
+            (λ other. walk_ends table x (end - 1) (omega arith) (place - 1) next here walk (omega arith) here_is holds)
+            (cases_eq (place - 1) 0);
+        anchor = inr (
+          omega arith,
+          subst (λ c. IsSafePair table (category_at table x (place - 1)) c) (nears.next_is ∙ ap (category_at table x) after)
+              (subst (λ c. IsSafePair table c next) here_is pair),
+        );
+        far = inr (omega arith);
+        few = room;
+      }
+
+  -- the start is reached
+  pub near_start : (end place next : ℕ) (slots : List ℕ) → end ≤ length x → Nears table x end place next slots → place ≡ 0 → end ≤ 64 → IsNear table x end 0
+  near_start end place next slots within nears start few =
+      let below = nears.below in
+      record {
+        greatest = omega (arith, none_past table x (end - 1) (omega arith) 0 (λ p past less. nears.none p past (omega arith) less));
+        anchor = inl refl;
+        far = inl refl;
+        few = omega arith;
+      }
+
+  pub near_empty : IsNear table x 0 0
+  near_empty = record { greatest = refl; anchor = inl refl; far = inl refl; few = omega arith }
+
+  -- where no anchor was found, a walk from there goes on
+  pub goes_on : (end i : ℕ) → end ≡ i - 1 → HasNoneFrom table x end → (found : ℕ) → found ≡ max 0 (anchor_below table x (end - 64)) →
+      anchor_below table x (i - 2) ≡ found
+  goes_on end i end_is none found found_is =
+      let more = none.more in
+      omega (
+        arith,
+        ap (λ o. unwrap_or o 0)
+            (same_below (is_anchor table x) (end - 64) (i - 2) (omega arith) (λ p from less. none.none p from (omega arith))),
       )
 
-      pub finds_not : is_safe table here next ≡ false → Finds table x i end (place - 1) least near wide
-      finds_not fails =
-          ⊎_elim
-          (λ found.
-          inl
-          (record {
-            near_is = found.near_is;
-            wide_is = found.wide_is;
-            to = found.to;
-            none = λ p past from less.
-                ⊎_elim
-                (λ first. found.none p past (omega arith) less)
-                (λ other.
-                (walk_goes table x (i - 2) (omega arith) (place - 1) next here (walk found) (omega arith) here_is fails).none p (omega arith) less)
-                (cases_eq (place - 1) 0);
-          }))
-          (λ found. inr (some_goes i place least near wide found))
-          finds
+  -- the first safe pair of the slots, or the near anchor, is one
+  pub wide_is : (end near from : ℕ) (slots : List ℕ) → end ≤ length x → length slots ≡ 64 → IsNear table x end near → EndWith table x from end slots →
+      end ≤ from + 64 → from ≤ near → (first last : ℕ) → last ≡ near + 64 - end → from + 64 - end ≤ first → first ≤ last →
+      (first < last → IsSafePair table (slice_index slots first) (slice_index slots (first + 1))) → IsAnchor table x (near - (last - first))
+  wide_is end near from slots within many lies kept room before first last last_is past order safe =
+      ⊎_elim
+      (λ same. let there : near ≡ near - (last - first) = omega arith in subst (IsAnchor table x) there lies.anchor)
+      (λ other.
+      ⊎_elim
+      (λ zero. absurd (other (omega arith)))
+      (λ two.
+      anchor_of end from slots kept (omega arith) many within room (near - (last - first)) first (omega arith) (omega arith) (omega arith) (safe (omega arith)))
+      lies.far)
+      (cases_eq first last)
 
-      module _ (holds : is_safe table here next ≡ true) (pair : IsSafePair table here next) where
-        pub finds_first : near ≡ 0 → (to : ℕ) → to ≡ max least (2 * (place - 1) + 1 - i) → Finds table x i end (place - 1) to (place - 1) (place - 1)
-        finds_first is to to_is =
-            ⊎_elim
-            (λ found.
-            ⊎_elim
-            (λ first.
-            let as_before = found.to in
-            inl
-            (record { near_is = first; wide_is = first; to = omega arith; none = λ p past from less. found.none p past (omega arith) less }))
-            (λ other.
-            inr
-            (record {
-              some = omega arith;
-              greatest = walk_ends table x (i - 2) (omega arith) (place - 1) next here (walk found) (omega arith) here_is holds;
-              far = omega arith;
-              to = omega arith;
-              near_is = anchor pair;
-              wide_is = anchor pair;
-              from = omega arith;
-              order = omega arith;
-            }))
-            (cases_eq (place - 1) 0))
-            (λ found. let past = found.some in absurd (omega arith))
-            finds
-
-        pub finds_more : near ≢ 0 → Finds table x i end (place - 1) least near (place - 1)
-        finds_more other =
-            ⊎_elim
-            (λ found. absurd (other found.near_is))
-            (λ found.
-            let from = found.from in
-            let order = found.order in
-            inr
-            (record {
-              some = found.some;
-              greatest = found.greatest;
-              far = found.far;
-              to = found.to;
-              near_is = found.near_is;
-              wide_is = anchor pair;
-              from = omega arith;
-              order = omega arith;
-            }))
-            finds
-
-  module _ (i end place least near wide : ℕ) (within : i ≤ length x) (some : 0 < i) where
-    -- where nothing was found, a walk from there goes on
-    pub goes_on : Finds table x i end place least near wide → near ≡ 0 → 0 < place → place ≤ least → end ≤ i + 1 → (found : ℕ) →
-        found ≡ max 0 (anchor_below table x place) → anchor_below table x (i - 2) ≡ found
-    goes_on finds is past ends late found found_is =
-        ⊎_elim
-        (λ none.
-        let to = none.to in
-        omega (
-          arith,
-          ap (λ o. unwrap_or o 0) (same_below (is_anchor table x) place (i - 2) (omega arith) (λ p from less. none.none p (omega arith) from less)),
-        ))
-        (λ other. let more = other.some in absurd (omega arith))
-        finds
-
-    pub greatest : Finds table x i end place least near wide → (near ≡ 0 → place ≡ 0) → anchor_below table x (i - 2) ≡ near
-    greatest finds ends =
-        ⊎_elim
-        (λ found.
-        let is = found.near_is in
-        let first = ends is in
-        omega (arith, none_past table x (i - 2) (omega arith) 0 (λ p past less. found.none p past (omega arith) less)))
-        (λ found. found.greatest)
-        finds
-
-    pub are_back : (categories : List ℕ) → Finds table x i end place least near wide → AreRead table x place categories →
-        AreBack table x i near wide place categories
-    are_back categories finds read =
-        ⊎_elim
-        (λ found.
-        let is = found.near_is in
-        let same = found.wide_is in
-        record {
-          near_is = inl is;
-          wide_is = inl same;
-          order = omega arith;
-          far = inl is;
-          read = λ less. absurd (omega arith);
-        })
-        (λ found.
-        record {
-          near_is = found.near_is;
-          wide_is = found.wide_is;
-          order = found.order;
-          far = inr found.far;
-          read = λ less. (read, found.from);
-        })
-        finds
+  -- the two anchors, and what was read
+  pub are_back : (i near wide from start : ℕ) (slots : List ℕ) → 0 < i → i ≤ length x → length slots ≡ 64 → start ≡ from + 64 - (i - 1) →
+      IsNear table x (i - 1) near → EndWith table x from (i - 1) slots → IsAnchor table x wide → from ≤ wide → wide ≤ near → i - 1 ≤ from + 64 → from ≤ i - 1 →
+      AreBack table x i near wide from (drop start slots)
+  are_back i near wide from start slots some within many start_is lies kept anchor past order room before = record {
+    near_is = lies.anchor;
+    wide_is = anchor;
+    order = order;
+    far = ⊎_elim (λ is. inl is) (λ two. inr (omega arith)) lies.far;
+    read = λ less. (are_read (i - 1) from slots kept before many (omega arith) room start start_is, past);
+    end = λ less. omega (arith, length-drop start slots);
+  }
 
   -- the greatest anchor alone, found by a walk
-  pub is_back : IsValidTable table → (i near from : ℕ) (categories : List ℕ) → anchor_below table x (i - 2) ≡ near → AreBack table x i near near from categories
-  is_back valid i near from categories is =
+  pub is_back : IsValidTable table → (i near from : ℕ) (categories : List ℕ) → anchor_below table x (i - 2) ≡ near → near < from →
+      AreBack table x i near near from categories
+  is_back valid i near from categories is less_than =
       let lies = subst (IsAnchorBelow table x (i - 2)) is (anchor_is table valid x (i - 2)) in
       record {
         near_is = lies.anchor;
@@ -253,4 +212,10 @@ module _ (table : Table) (x : List ℕ) where
         order = omega arith;
         far = ⊎_elim (λ is. inl is) (λ less. inr (omega arith)) lies.below;
         read = λ less. absurd (omega arith);
+        end = λ less. absurd (omega arith);
       }
+
+  -- it lies before the place that the walk began at
+  pub walked_below : IsValidTable table → (place near : ℕ) → 0 < place → near ≡ max 0 (anchor_below table x place) → near < place
+  walked_below valid place near some is =
+      ⊎_elim (λ zero. omega arith) (λ less. omega arith) (anchor_is table valid x place).below

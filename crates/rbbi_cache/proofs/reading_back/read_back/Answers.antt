@@ -1,88 +1,36 @@
-use Rattle.std.proofs.Common.{sym, ◌∙◌, ap, arith}
-use Rattle.rbbi_model.specs.Tables.{category_of}
-use Rattle.rbbi_cache.proofs.ReadBack.{keeps_more, are_read, finds_near, finds_not, finds_first, finds_more, goes_on, greatest, are_back, is_back}
+use Rattle.std.proofs.Common.{◌-◌, ◌≤◌, sym, refl, ⊎_elim, arith}
+use Rattle.rbbi_cache.proofs.ReadBack.{goes_on, fits_from, wide_is, are_back, is_back, walked_below}
 use Rattle.rbbi_cache.proofs.reading_back.read_back.Goals as goal
-use Rattle.rbbi_cache.proofs.reading_back.read_back.Goals.{else-place-i-via-then-place-i+else-is_safe, else-place-i-via-else-place-i}
-use Rattle.rbbi_cache.proofs.reading_back.read_back.Goals.{else-near-eq0-2-via-then-near-eq0-2+else-place-gt0, else-near-eq0-2-via-else-near-eq0-2}
 
-pub loop-least-preserved-then-near-eq0 : goal.loop-least-preserved-then-near-eq0
-loop-least-preserved-then-near-eq0 g c =
-    let here_is = c.category-here.ensures.value ∙ ap (category_of c.args.table.now.ranges) c.char_at.ensures.character in
-    record {
-      low = omega arith;
-      high = omega arith;
-      room = omega arith;
-      kept = keeps_more c.args.table.now (g.T.Chars.characters c.args.text.now) c.min-end.result c.loop-least.place c.loop-least.next c.loop-least.slots
-          c.loop-least.invariant.kept (omega arith) (omega arith) c.category-here.result (omega arith) (omega arith) here_is c.category-here.ensures.within;
-      finds = finds_first c.args.table.now (g.T.Chars.characters c.args.text.now) c.args.i c.min-end.result c.loop-least.place c.loop-least.least
-          c.loop-least.near c.loop-least.wide c.category-here.result c.loop-least.next c.requires.within (omega arith) (omega arith) here_is
-          (c.loop-least.invariant.kept.next_is (omega arith)) c.loop-least.invariant.finds (sym c.is_safe.ensures.stored ∙ c.if-is_safe.true)
-          (c.is_safe.ensures.exact.0 c.if-is_safe.true) c.if-near-eq0.true c.max-least.result (omega arith);
-      steps = omega arith;
-    }
+pub returns-in_default-clause-near : goal.returns-in_default-clause-near
+returns-in_default-clause-near g c =
+    sym (goes_on c.args.table.now (g.T.Chars.characters c.args.text.now) (c.args.i - 1) c.args.i refl c.in_default.ensures.near
+    c.anchor_before-near.result c.anchor_before-near.ensures.anchor)
 
-pub loop-least-preserved-else-near-eq0 : goal.loop-least-preserved-else-near-eq0
-loop-least-preserved-else-near-eq0 g c =
-    let here_is = c.category-here.ensures.value ∙ ap (category_of c.args.table.now.ranges) c.char_at.ensures.character in
-    record {
-      low = omega arith;
-      high = omega arith;
-      room = omega arith;
-      kept = keeps_more c.args.table.now (g.T.Chars.characters c.args.text.now) c.min-end.result c.loop-least.place c.loop-least.next c.loop-least.slots
-          c.loop-least.invariant.kept (omega arith) (omega arith) c.category-here.result (omega arith) (omega arith) here_is c.category-here.ensures.within;
-      finds = finds_more c.args.table.now (g.T.Chars.characters c.args.text.now) c.args.i c.min-end.result c.loop-least.place c.loop-least.least
-          c.loop-least.near c.loop-least.wide c.category-here.result c.loop-least.next c.requires.within (omega arith) (omega arith) here_is
-          (c.loop-least.invariant.kept.next_is (omega arith)) c.loop-least.invariant.finds (sym c.is_safe.ensures.stored ∙ c.if-is_safe.true)
-          (c.is_safe.ensures.exact.0 c.if-is_safe.true) c.if-near-eq0.false;
-      steps = omega arith;
-    }
+pub returns-in_default-clause-back : goal.returns-in_default-clause-back
+returns-in_default-clause-back g c =
+    let more = c.in_default.ensures.near.more in
+    is_back c.args.table.now (g.T.Chars.characters c.args.text.now) c.valid.ensures c.args.i c.anchor_before-near.result ((c.args.i - 1) - 64) _
+    (goes_on c.args.table.now (g.T.Chars.characters c.args.text.now) (c.args.i - 1) c.args.i refl c.in_default.ensures.near
+    c.anchor_before-near.result c.anchor_before-near.ensures.anchor)
+    (walked_below c.args.table.now (g.T.Chars.characters c.args.text.now) c.valid.ensures ((c.args.i - 1) - 64) c.anchor_before-near.result (omega arith)
+    c.anchor_before-near.ensures.anchor)
 
-pub loop-least-preserved : goal.loop-least-preserved
-loop-least-preserved g c =
-    let here_is = c.category-here.ensures.value ∙ ap (category_of c.args.table.now.ranges) c.char_at.ensures.character in
-    record {
-      low = omega arith;
-      high = omega arith;
-      room = omega arith;
-      kept = keeps_more c.args.table.now (g.T.Chars.characters c.args.text.now) c.min-end.result c.loop-least.place c.loop-least.next c.loop-least.slots
-          c.loop-least.invariant.kept (omega arith) (omega arith) c.category-here.result (omega arith) (omega arith) here_is c.category-here.ensures.within;
-      finds = elim c.else-place-i.branch [
-        | else-place-i-via-then-place-i+else-is_safe w ↦
-            finds_not c.args.table.now (g.T.Chars.characters c.args.text.now) c.args.i c.min-end.result c.loop-least.place c.loop-least.least
-            c.loop-least.near c.loop-least.wide c.category-here.result c.loop-least.next c.requires.within (omega arith) (omega arith) here_is
-            (c.loop-least.invariant.kept.next_is (omega arith)) c.loop-least.invariant.finds (sym w.is_safe.ensures.stored ∙ w.if-is_safe.false)
-        | else-place-i-via-else-place-i w ↦
-            finds_near c.args.table.now (g.T.Chars.characters c.args.text.now) c.args.i c.min-end.result c.loop-least.place c.loop-least.least
-            c.loop-least.near c.loop-least.wide (omega arith) c.loop-least.invariant.finds
-      ];
-      steps = omega arith;
-    }
+pub first_safe-first-requires-clause-fit : goal.first_safe-first-requires-clause-fit
+first_safe-first-requires-clause-fit g c = λ k from to.
+    let lies = c.in-Some.ensures.near in
+    let before : c.in-Some.near ≤ (c.args.i - 1) = ⊎_elim (λ zero. omega arith) (λ two. omega arith) lies.far in
+    fits_from c.args.table.now (g.T.Chars.characters c.args.text.now) (c.args.i - 1) c.max-from.result c.read_on.new.slots c.read_on.ensures.kept (omega arith)
+    c.read_on.ensures.room (omega arith) k from (omega arith)
 
-pub returns-then-place-gt0-clause-near : goal.returns-then-place-gt0-clause-near
-returns-then-place-gt0-clause-near g c =
-    sym (goes_on c.args.table.now (g.T.Chars.characters c.args.text.now) c.args.i c.min-end.result c.loop-least.place c.loop-least.least
-    c.loop-least.near c.loop-least.wide c.requires.within c.requires.some c.loop-least.invariant.finds c.if-near-eq0-2.true (omega arith)
-    (omega arith) (omega arith) c.anchor_before-near.result c.anchor_before-near.ensures.anchor)
-
-pub returns-then-place-gt0-clause-back : goal.returns-then-place-gt0-clause-back
-returns-then-place-gt0-clause-back g c =
-    is_back c.args.table.now (g.T.Chars.characters c.args.text.now) c.valid.ensures c.args.i c.anchor_before-near.result c.loop-least.place _
-    (goes_on c.args.table.now (g.T.Chars.characters c.args.text.now) c.args.i c.min-end.result c.loop-least.place c.loop-least.least
-    c.loop-least.near c.loop-least.wide c.requires.within c.requires.some c.loop-least.invariant.finds c.if-near-eq0-2.true (omega arith)
-    (omega arith) (omega arith) c.anchor_before-near.result c.anchor_before-near.ensures.anchor)
-
-pub returns-else-near-eq0-2-clause-near : goal.returns-else-near-eq0-2-clause-near
-returns-else-near-eq0-2-clause-near g c =
-    sym (greatest c.args.table.now (g.T.Chars.characters c.args.text.now) c.args.i c.min-end.result c.loop-least.place c.loop-least.least c.loop-least.near
-    c.loop-least.wide c.requires.within c.requires.some c.loop-least.invariant.finds
-    (elim c.else-near-eq0-2.branch [
-      | else-near-eq0-2-via-then-near-eq0-2+else-place-gt0 w ↦ λ zero. omega arith
-      | else-near-eq0-2-via-else-near-eq0-2 w ↦ λ zero. absurd (w.if-near-eq0-2.false zero)
-    ]))
-
-pub returns-else-near-eq0-2-clause-back : goal.returns-else-near-eq0-2-clause-back
-returns-else-near-eq0-2-clause-back g c =
-    are_back c.args.table.now (g.T.Chars.characters c.args.text.now) c.args.i c.min-end.result c.loop-least.place c.loop-least.least c.loop-least.near
-    c.loop-least.wide c.requires.within c.requires.some _ c.loop-least.invariant.finds
-    (are_read c.args.table.now (g.T.Chars.characters c.args.text.now) c.min-end.result c.loop-least.place c.loop-least.next c.loop-least.slots
-    c.loop-least.invariant.kept (omega arith) (omega arith) (omega arith) (omega arith))
+pub returns-clause-back : goal.returns-clause-back
+returns-clause-back g c =
+    let lies = c.in-Some.ensures.near in
+    let few = lies.few in
+    let before : c.in-Some.near ≤ (c.args.i - 1) = ⊎_elim (λ zero. omega arith) (λ two. omega arith) lies.far in
+    are_back c.args.table.now (g.T.Chars.characters c.args.text.now) c.args.i c.in-Some.near _ c.max-from.result _ c.read_on.new.slots c.requires.some c.requires.within c.read_on.ensures.room refl
+    lies c.read_on.ensures.kept
+    (wide_is c.args.table.now (g.T.Chars.characters c.args.text.now) (c.args.i - 1) c.in-Some.near c.max-from.result c.read_on.new.slots (omega arith) c.read_on.ensures.room
+    lies c.read_on.ensures.kept (omega arith) (omega arith) c.first_safe-first.result _ (omega arith) c.first_safe-first.ensures.from
+    c.first_safe-first.ensures.to c.first_safe-first.ensures.safe)
+    (omega arith) (omega arith) (omega arith) (omega arith)
