@@ -1,5 +1,5 @@
 -- Searches from an anchor farther back than another, and what they read past that.
-use Rattle.std.proofs.Common.{◌≡◌, ℕ, ◌+◌, ◌-◌, ◌<◌, ◌≤◌, ◌⊎◌, max, min, true, leb, ltb, List, [], ◌∷◌, ◌++◌, length, filter, sym, refl, ap, ◌∙◌, subst, inl, inr, ⊎_elim, arith}
+use Rattle.std.proofs.Common.{◌≡◌, ℕ, zero, suc, ◌+◌, ◌-◌, ◌<◌, ◌≤◌, ◌⊎◌, max, min, true, leb, ltb, List, [], ◌∷◌, ◌++◌, length, filter, sym, refl, ap, ◌∙◌, subst, inl, inr, ⊎_elim, arith}
 use Rattle.std.specs.Prelude.{sum_by}
 use Rattle.std.proofs.lemmas.Bool.{cases_lt, cond-true, cond-false, le-leb, lt-leb, lt-ltb}
 use Rattle.std.proofs.lemmas.List.{append-nil}
@@ -94,6 +94,22 @@ module _ (table : Table) (x : List ℕ) (i : ℕ) where
       (λ low. omega (arith, path_reads valid (next_boundary table x b.at) done c path, counts b done (omega arith), reads_up valid b.at short))
       (λ past. omega arith)
       (cases_lt b.at (i + 1))
+
+  -- searches up to past i read no less than lies between
+  pub least_cost : (valid : IsValidTable table) (most y : ℕ) → i < y + most → y ≤ i → i < length x → i + 1 ≤ y + searches_cost table x y i
+  least_cost valid zero y enough low short = absurd (omega arith)
+  least_cost valid (suc most) y enough low short =
+      let lies = found_lies table x y (omega arith) in
+      ⊎_elim
+      (λ more. omega (
+        arith,
+        cost_step y (omega arith) low,
+        reads_up valid y (omega arith),
+        least_cost valid most (found table x y).at (omega (arith, lies.0)) (omega arith)
+            short,
+      ))
+      (λ past. omega (arith, cost_step y (omega arith) low, reads_up valid y (omega arith)))
+      (cases_lt (found table x y).at (i + 1))
 
   module _ (valid : IsValidTable table) (q : ℕ) (anchor : IsAnchor table x q) where
     -- what is found from an anchor is a boundary

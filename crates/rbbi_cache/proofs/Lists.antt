@@ -91,3 +91,10 @@ largest_join (x ∷ xs) ys = ap (λ n. max x n) (largest_join xs ys) ∙ max_ass
 pub mapped : {X A B : Type 0} {P Q : X → Type 0} (found : Option X) → (A → B) → ((x : X) → P x → Q x) → MatchOption found A P → MatchOption found B Q
 mapped None none some is = none is
 mapped (Some x) none some is = some x is
+
+pub no_value : {X A : Type 0} (P : X → Type 0) (found : Option X) → found ≡ None → MatchOption found A P → A
+no_value P None is given = given
+no_value P (Some x) is given = absurd (some_none is)
+  where
+    some_none : {X : Type 0} {x : X} → Some x ≡ None → ⊥
+    some_none is = cc

@@ -14,7 +14,7 @@ ghost use Rattle.rbbi_cache.specs.inner.Ready.{HasNoneBefore, IsFloor, IsReadyBe
 use crate::anchors::anchor_before;
 use crate::reading_back::{Back, read_back};
 use crate::scan::scan;
-use crate::wide::fill_from;
+use crate::wide::{fill_from, fill_wide};
 use crate::{Entry, Run};
 use rbbi_table::{FrontPlaces, ShortTable, Table};
 use rbbi_text::{Chars, Steps};
@@ -155,10 +155,8 @@ fn search_read<T: Chars, L: Ledger>(
     ensures cost { steps.new + (i - 1 - back.near)
         ≤ steps.old + searches_cost table.now (T.characters text.now) back.near (i - 1) }
 {
-    if back.wide < back.near && back.wide < floor {
-        if fill_from(table, text, back, categories, back.wide, run, i, steps) {
-            return last_but_one(run);
-        }
+    if fill_wide(table, text, back, categories, i, floor, run, steps) {
+        return last_but_one(run);
     }
     if back.near > 0 && back.near >= floor {
         return None;

@@ -64,3 +64,34 @@ pub(crate) fn fill_from<T: Chars, L: Ledger>(
     }
     true
 }
+
+/// As `fill_from` from the wide anchor, if it lies before the near one and before the floor.
+pub(crate) fn fill_wide<T: Chars, L: Ledger>(
+    table: &ShortTable<'_>,
+    text: &T,
+    back: Back,
+    categories: &[u16],
+    i: u32,
+    floor: u32,
+    run: &mut Run,
+    steps: &mut Steps<L>,
+) -> bool
+    requires valid { IsValidTable table.now }
+    requires some { 0 < i }
+    requires within { i ≤ length (T.characters text.now) }
+    requires small { i ≤ most_characters }
+    requires back { AreBack table.now (T.characters text.now) i back.near back.wide back.from
+        categories.now }
+    requires covered { back.from ≤ back.near }
+    ensures filled { MatchBool result
+        (IsFilledPast table.now (T.characters text.now) back.wide (i - 1) run.new
+        × (back.wide < back.near)) (steps.new ≡ steps.old) }
+    ensures more { steps.old ≤ steps.new }
+    ensures cost { MatchBool result (steps.new + (i - 1 - back.near)
+        ≤ steps.old + searches_cost table.now (T.characters text.now) back.near (i - 1)) ⊤ }
+{
+    if back.wide >= back.near || back.wide >= floor {
+        return false;
+    }
+    fill_from(table, text, back, categories, back.wide, run, i, steps)
+}

@@ -1,9 +1,11 @@
-use Rattle.std.proofs.Common.{◌≡◌, ◌≢◌, ℕ, ◌+◌, ◌-◌, ◌*◌, max, ◌≤◌, List, subst, sym, ap, ◌∙◌, arith}
+use Rattle.std.proofs.Common.{◌≡◌, ◌≢◌, ℕ, ◌+◌, ◌-◌, ◌*◌, max, ◌<◌, ◌≤◌, List, ⊎_elim, subst, sym, ap, ◌∙◌, arith}
 use Rattle.rbbi_model.specs.Tables.{Table}
 use Rattle.rbbi_model.specs.ValidTables.{IsValidTable}
 use Rattle.rbbi_model.specs.Costs.{anchor_below, searches_cost}
 use Rattle.rbbi_cache.specs.inner.Ready.{HasNoneBefore}
 use Rattle.rbbi_cache.proofs.Backward.{none_settles}
+use Rattle.rbbi_cache.proofs.Lists.{no_value}
+use Rattle.rbbi_cache.proofs.Ready.{anchor_is}
 use Rattle.rbbi_cache.proofs.TriedBack.{TriedFar, far_first, far_next, far_last, start_is_last}
 use Rattle.rbbi_cache.proofs.search_back.search_back.Goals as goal
 
@@ -11,28 +13,33 @@ use Rattle.rbbi_cache.proofs.search_back.search_back.Goals as goal
 walked : (table : Table) (x : List ℕ) (high place q : ℕ) → high ≡ place → q ≡ max 0 (anchor_below table x high) → anchor_below table x place ≡ q
 walked table x high place q same is = omega (arith, is, ap (anchor_below table x) same)
 
+-- the first try
+begun : (table : Table) (valid : IsValidTable table) (x : List ℕ) (i anchor : ℕ) → 0 < i → anchor ≡ anchor_below table x (i - 2) →
+    TriedFar table x i anchor (2 * (i - anchor))
+begun table valid x i anchor some is =
+    subst (λ q. TriedFar table x i q (2 * (i - q))) (sym is)
+    (far_first table valid x i (2 * (i - anchor_below table x (i - 2))) some
+    (⊎_elim (λ zero. omega arith) (λ less. omega arith) (anchor_is table valid x (i - 2)).below))
+
 pub returns-in-Some-clause-cost : goal.returns-in-Some-clause-cost
 returns-in-Some-clause-cost g c =
-    let back = c.read_back-back.ensures in
-    let tried = subst (λ q. TriedFar c.args.table.now (g.T.Chars.characters c.args.text.now) c.args.i q (c.read_back-back.new.steps - c.args.steps.now)) (sym back.near)
-    (far_first c.args.table.now c.valid.ensures (g.T.Chars.characters c.args.text.now) c.args.i (c.read_back-back.new.steps - c.args.steps.now) c.requires.some
-    (omega (arith, back.near, back.cost, back.more))) in
-    let most = far_last c.args.table.now c.valid.ensures (g.T.Chars.characters c.args.text.now) c.args.i c.read_back-back.result.near
-    (c.read_back-back.new.steps - c.args.steps.now) tried (c.search_wide.new.steps - c.args.steps.now) (omega (arith, back.more, c.in-Some.ensures.cost)) in
-    omega (arith, most, back.more, c.in-Some.ensures.more)
+    let first = c.first_try-first.ensures in
+    let most = far_last c.args.table.now c.valid.ensures (g.T.Chars.characters c.args.text.now) c.args.i c.first_try-first.result.anchor
+    (2 * (c.args.i - c.first_try-first.result.anchor))
+    (begun c.args.table.now c.valid.ensures (g.T.Chars.characters c.args.text.now) c.args.i c.first_try-first.result.anchor c.requires.some first.anchor)
+    (c.first_try-first.new.steps - c.args.steps.now) (omega (arith, first.cost, first.more)) in
+    omega (arith, most, first.more)
 
 pub tries-init : goal.tries-init
 tries-init g c =
-    let back = c.read_back-back.ensures in
+    let first = c.first_try-first.ensures in
     record {
-      before = c.read_back-back.new.steps - c.args.steps.now;
-      tried = subst (λ q. TriedFar c.args.table.now (g.T.Chars.characters c.args.text.now) c.args.i q (c.read_back-back.new.steps - c.args.steps.now)) (sym back.near)
-          (far_first c.args.table.now c.valid.ensures (g.T.Chars.characters c.args.text.now) c.args.i (c.read_back-back.new.steps - c.args.steps.now) c.requires.some
-          (omega (arith, back.near, back.cost, back.more)));
-      searched = omega (arith, back.more, c.in_default.ensures.cost);
-      none = c.in_default.ensures.found;
-      more = omega (arith, back.more, c.in_default.ensures.more);
-      fit = c.in_default.ensures.fit;
+      before = 2 * (c.args.i - c.first_try-first.result.anchor);
+      tried = begun c.args.table.now c.valid.ensures (g.T.Chars.characters c.args.text.now) c.args.i c.first_try-first.result.anchor c.requires.some first.anchor;
+      searched = omega (arith, first.cost);
+      none = no_value _ c.first_try-first.result.found c.in_default.is first.found;
+      more = first.more;
+      fit = first.fit;
     }
 
 pub returns-then-anchor-eq0-clause-found : goal.returns-then-anchor-eq0-clause-found

@@ -1,10 +1,10 @@
-use Rattle.std.proofs.Common.{◌≡◌, ℕ, ◌+◌, ◌-◌, ◌<◌, ◌≤◌, ◌⊎◌, List, length, refl, ap, ◌∙◌, sym, subst, ⊎_elim, arith}
+use Rattle.std.proofs.Common.{◌≡◌, ℕ, ◌+◌, ◌<◌, ◌≤◌, ◌⊎◌, List, length, refl, ap, sym, subst, ⊎_elim, arith}
 use Rattle.std.proofs.lemmas.Bool.{lt-leb}
 use Rattle.rbbi_model.specs.Tables.{Table}
 use Rattle.rbbi_model.specs.Runs.{Entry, IsAnchor}
 use Rattle.rbbi_model.proofs.Found.{found_lies}
 use Rattle.rbbi_cache.specs.inner.Back.{AreBack}
-use Rattle.rbbi_cache.proofs.Filling.{Fills, fills_first, fills_found, fills_skipped, fills_past, fills_cost, fills_nothing}
+use Rattle.rbbi_cache.proofs.Filling.{Fills, fills_first, fills_found, fills_skipped, fills_past}
 use Rattle.rbbi_cache.proofs.wide.fill_from.Goals as goal
 
 -- the anchor is one, and not past the near one, which lies before the place
