@@ -1,4 +1,4 @@
-//! One search over characters that were read before, by their categories, and over those past them.
+//! One search over characters that were read before, by their categories, and on past them.
 ghost use Rattle.std.specs.Prelude.{◌≡◌, ◌+◌, ◌-◌, ◌<◌, ◌≤◌, length, min, max, false};
 ghost use Rattle.std.specs.Prelude.{MatchOption, ⊤};
 ghost use Rattle.rbbi_model.specs.Searches.{look_end};
