@@ -1,28 +1,19 @@
 -- One search over the short moves, by categories that were read before, as far as they go.
-use Rattle.std.proofs.Common.{◌≡◌, ◌≢◌, ℕ, suc, zero, ◌+◌, ◌-◌, ◌*◌, ◌/◌, ◌%◌, ◌<◌, ◌≤◌, false, eqb, List, length, get_or, sym, ap, ◌∙◌, subst, arith}
-use Rattle.std.proofs.lemmas.Bool.{false≢true}
+use Rattle.std.proofs.Common.{◌≡◌, ◌≢◌, ℕ, suc, ◌+◌, ◌-◌, ◌*◌, ◌/◌, ◌%◌, ◌<◌, ◌≤◌, List, length, get_or, sym, ap, ◌∙◌, subst, arith}
 use Rattle.rbbi_model.specs.Words.{IsText, last_code_point}
 use Rattle.rbbi_model.specs.Tables.{Table}
 use Rattle.rbbi_model.specs.Searches.{row_at}
 use Rattle.rbbi_table.specs.Blocks.{in_block}
-use Rattle.rbbi_table.specs.Kept.{IsWholeKept}
 use Rattle.rbbi_table.specs.Short.{IsShortKept, short_stride}
 use Rattle.rbbi_table.specs.Reading.{AreRead}
 use Rattle.rbbi_table.specs.inner.Searching.{IsGoing}
 use Rattle.rbbi_table.proofs.StepLemmas.{text_at}
 use Rattle.rbbi_table.proofs.ShortSearchLemmas.{IsTurn, within_rows, inside_row, goes_first, goes_to, goes_ended, goes_plain}
 
--- a table's short moves, if there are any, are its own as contracts see it
-pub short_kept : {table table' : Table} {numbers kept long short moves near : List ℕ} {start : ℕ} → IsWholeKept table numbers kept long short near start →
-    table ≡ table' → moves ≡ short → eqb (length moves) 0 ≡ false → IsShortKept table' numbers kept moves near
-short_kept {table} {numbers} {kept} {short = short} {moves} {near} whole seen same isnt =
-    let some : 0 < length short = omega (arith, ap (λ (l : List ℕ). length l) same, some_is (length moves) isnt) in
-    subst (λ (t : Table). IsShortKept t numbers kept moves near) seen
-    (subst (λ (l : List ℕ). IsShortKept table numbers kept l near) (sym same) (whole.in_short some))
-  where
-    some_is : (n : ℕ) → eqb n 0 ≡ false → 0 < n
-    some_is zero isnt = absurd (false≢true (sym isnt))
-    some_is (suc n) isnt = omega arith
+-- the short moves of a table are its own as contracts see it
+pub short_kept : {table table' : Table} {numbers kept moves near : List ℕ} → table ≡ table' → IsShortKept table numbers kept moves near →
+    IsShortKept table' numbers kept moves near
+short_kept {numbers = numbers} {kept} {moves} {near} seen keeps = subst (λ (t : Table). IsShortKept t numbers kept moves near) seen keeps
 
 -- a search that goes on, by the numbers of categories from a place on
 pub record IsReading (table : Table) (x : List ℕ) (from s at row end end_row : ℕ) : Type 0 where

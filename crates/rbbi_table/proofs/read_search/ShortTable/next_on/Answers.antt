@@ -1,8 +1,8 @@
-use Rattle.std.proofs.Common.{◌+◌, ◌<◌, length, get_or, ap, ◌∙◌, subst, arith}
+use Rattle.std.proofs.Common.{◌+◌, ◌<◌, length, get_or, ap, ◌∙◌, arith}
 use Rattle.rbbi_model.specs.Tables.{Table}
 use Rattle.rbbi_table.specs.Short.{IsShortKept, short_stride}
 use Rattle.rbbi_table.proofs.ShortSearchLemmas.{IsTurn, inside_list, stops_here}
-use Rattle.rbbi_table.proofs.ReadLemmas.{reading_begins, inside_reading, turn_read, reading_ends, reading_on}
+use Rattle.rbbi_table.proofs.ReadLemmas.{short_kept, reading_begins, inside_reading, turn_read, reading_ends, reading_on}
 use Rattle.rbbi_table.proofs.read_search.ShortTable.next_on.Given.{Over}
 use Rattle.rbbi_table.proofs.read_search.ShortTable.next_on.Goals as goal
 use Rattle.rbbi_table.proofs.read_search.ShortTable.next_on.Goals.{In-loop-at}
@@ -10,8 +10,7 @@ use Rattle.rbbi_table.proofs.read_search.ShortTable.next_on.Goals.{In-loop-at}
 keeps : (g : Over) (c : In-loop-at g) →
     IsShortKept c.args.self.now c.self.inside.numbers.now c.self.inside.kept.now c.self.inside.moves.now c.self.inside.near.now
 keeps g c =
-    subst (λ (t : Table). IsShortKept t c.self.inside.numbers.now c.self.inside.kept.now c.self.inside.moves.now c.self.inside.near.now) c.self.view_is
-    c.self.invariant.0
+    short_kept c.self.view_is c.self.invariant.0
 
 -- the place of the move that is read lies in the list
 inside : (g : Over) (c : In-loop-at g) → c.loop-at.row + (get_or c.args.categories.now c.loop-at.at 0 + 1) < length c.self.inside.moves.now
@@ -36,9 +35,7 @@ inside_end g c =
 
 pub loop-at-init : goal.loop-at-init
 loop-at-init g c =
-    let kept =
-    subst (λ (t : Table). IsShortKept t c.self.inside.numbers.now c.self.inside.kept.now c.self.inside.moves.now c.self.inside.near.now) c.self.view_is
-    c.self.invariant.0 in
+    let kept = short_kept c.self.view_is c.self.invariant.0 in
     reading_begins kept (g.T.Chars.characters c.args.text.now) c.args.from c.args.s c.len-len.ensures.text c.self.inside.start c.requires.behind
     c.requires.within (c.self.invariant.1 ∙ ap (λ (t : Table). short_stride t) c.self.view_is)
 

@@ -1,11 +1,11 @@
 use Rattle.std.proofs.Common.{◌≡◌, ℕ, suc, ◌+◌, ◌*◌, ◌/◌, ◌<◌, length, get_or, ap, ◌∙◌, subst, arith, cond, ltb}
-use Rattle.rbbi_model.specs.Tables.{Table}
 use Rattle.rbbi_model.specs.Searches.{row_at}
 use Rattle.rbbi_table.specs.Blocks.{in_block}
 use Rattle.rbbi_table.specs.Short.{IsShortKept}
 use Rattle.rbbi_table.specs.inner.Searching.{IsGoing}
 use Rattle.rbbi_table.proofs.StepLemmas.{IsFound}
 use Rattle.rbbi_table.proofs.ShortSearchLemmas.{IsTurn, inside_row, inside_list, within_rows, stops_here, goes_to, goes_ended, goes_plain, goes_last}
+use Rattle.rbbi_table.proofs.ReadLemmas.{short_kept}
 use Rattle.rbbi_table.proofs.read_search.ShortTable.read_on.Given.{Over}
 use Rattle.rbbi_table.proofs.read_search.ShortTable.read_on.Goals as goal
 use Rattle.rbbi_table.proofs.read_search.ShortTable.read_on.Goals.{After-loop-at, After-place_of-place}
@@ -13,8 +13,7 @@ use Rattle.rbbi_table.proofs.read_search.ShortTable.read_on.Goals.{After-loop-at
 keeps : (g : Over) (c : After-place_of-place g) →
     IsShortKept c.args.self.now c.self.inside.numbers.now c.self.inside.kept.now c.self.inside.moves.now c.self.inside.near.now
 keeps g c =
-    subst (λ (t : Table). IsShortKept t c.self.inside.numbers.now c.self.inside.kept.now c.self.inside.moves.now c.self.inside.near.now) c.self.view_is
-    c.self.invariant.0
+    short_kept c.self.view_is c.self.invariant.0
 
 -- the place of the character's move
 placed : (g : Over) (c : After-place_of-place g) →
@@ -126,8 +125,7 @@ loop-at-preserved g c =
 kept_here : (g : Over) (c : After-loop-at g) →
     IsShortKept c.args.self.now c.self.inside.numbers.now c.self.inside.kept.now c.self.inside.moves.now c.self.inside.near.now
 kept_here g c =
-    subst (λ (t : Table). IsShortKept t c.self.inside.numbers.now c.self.inside.kept.now c.self.inside.moves.now c.self.inside.near.now) c.self.view_is
-    c.self.invariant.0
+    short_kept c.self.view_is c.self.invariant.0
 
 inside_last : (g : Over) (c : After-loop-at g) → c.loop-at.end_row < length c.self.inside.moves.now
 inside_last g c =
