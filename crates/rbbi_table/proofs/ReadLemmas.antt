@@ -1,56 +1,33 @@
--- One search over the short moves, by categories that were read before.
-use Rattle.std.proofs.Common.{◌≡◌, ◌≢◌, ℕ, suc, zero, ◌+◌, ◌-◌, ◌*◌, ◌/◌, ◌%◌, ◌<◌, ◌≤◌, false, eqb, List, length, get_or, sym, refl, ap, ◌∙◌, subst, arith}
-use Rattle.std.proofs.lemmas.Bool.{false≢true}
+-- One search over the short moves, by categories that were read before, as far as they go.
+use Rattle.std.proofs.Common.{◌≡◌, ◌≢◌, ℕ, suc, ◌+◌, ◌-◌, ◌*◌, ◌/◌, ◌%◌, ◌<◌, ◌≤◌, List, length, get_or, sym, ap, ◌∙◌, subst, arith}
 use Rattle.rbbi_model.specs.Words.{IsText, last_code_point}
-use Rattle.rbbi_model.specs.Tables.{Table, stops}
+use Rattle.rbbi_model.specs.Tables.{Table}
 use Rattle.rbbi_model.specs.Searches.{row_at}
 use Rattle.rbbi_table.specs.Blocks.{in_block}
-use Rattle.rbbi_table.specs.Kept.{IsWholeKept}
 use Rattle.rbbi_table.specs.Short.{IsShortKept, short_stride}
 use Rattle.rbbi_table.specs.Reading.{AreRead}
+use Rattle.rbbi_table.specs.inner.Searching.{IsGoing}
 use Rattle.rbbi_table.proofs.StepLemmas.{text_at}
-use Rattle.rbbi_table.proofs.ShortSearchLemmas.{IsShortEnd, IsTurn, nothing_ended, ends_now, within_rows, inside_row, move_read, move_place, turn_onward}
-use Rattle.rbbi_table.proofs.ShortSearchLemmas.{going_on, plain_ended, begins_at}
+use Rattle.rbbi_table.proofs.ShortSearchLemmas.{IsTurn, within_rows, inside_row, goes_first, goes_to, goes_ended, goes_plain}
 
--- a table's short moves, if there are any, are its own as contracts see it
-pub short_kept : {table table' : Table} {numbers kept long short moves near : List ℕ} {start : ℕ} → IsWholeKept table numbers kept long short near start →
-    table ≡ table' → moves ≡ short → eqb (length moves) 0 ≡ false → IsShortKept table' numbers kept moves near
-short_kept {table} {numbers} {kept} {short = short} {moves} {near} whole seen same isnt =
-    let some : 0 < length short = omega (arith, ap (λ (l : List ℕ). length l) same, some_is (length moves) isnt) in
-    subst (λ (t : Table). IsShortKept t numbers kept moves near) seen
-    (subst (λ (l : List ℕ). IsShortKept table numbers kept l near) (sym same) (whole.in_short some))
-  where
-    some_is : (n : ℕ) → eqb n 0 ≡ false → 0 < n
-    some_is zero isnt = absurd (false≢true (sym isnt))
-    some_is (suc n) isnt = omega arith
+-- the short moves of a table are its own as contracts see it
+pub short_kept : {table table' : Table} {numbers kept moves near : List ℕ} → table ≡ table' → IsShortKept table numbers kept moves near →
+    IsShortKept table' numbers kept moves near
+short_kept {numbers = numbers} {kept} {moves} {near} seen keeps = subst (λ (t : Table). IsShortKept t numbers kept moves near) seen keeps
 
--- a search that goes on at a place, where its row begins, and what ended last
-pub record IsGoing (table : Table) (x : List ℕ) (s place row end end_row : ℕ) : Type 0 where
-  pub from : s ≤ place
-  pub row_is : row ≡ row_at table x s place * short_stride table
-  pub going : (z : ℕ) → s < z → z ≤ place → stops table (row_at table x s z) ≡ false
-  pub ended : IsShortEnd table x s place end end_row
-
--- the same, by the numbers of categories from a place on
+-- a search that goes on, by the numbers of categories from a place on
 pub record IsReading (table : Table) (x : List ℕ) (from s at row end end_row : ℕ) : Type 0 where
   pub going : IsGoing table x s (from + at) row (from + end) end_row
   pub low : end ≤ at
 
 module _ {table : Table} {numbers kept moves near : List ℕ} (keeps : IsShortKept table numbers kept moves near) (x : List ℕ) (from s : ℕ)
     (text : IsText x) where
-  pub reading_begins : (row : ℕ) → from ≤ s → row ≡ short_stride table → IsReading table x from s (s - from) row (s - from) 0
-  reading_begins row behind start =
-      let begin : s ≡ from + (s - from) = omega arith in
-      let row_is : row ≡ row_at table x s s * short_stride table =
-      start ∙ (let e : short_stride table ≡ 1 * short_stride table = omega arith in e)
-      ∙ ap (λ n. n * short_stride table) (sym (begins_at keeps x s text)) in
-      let first : IsGoing table x s s row s 0 = record {
-        from = omega arith;
-        row_is = row_is;
-        going = λ z past up_to. absurd (omega (arith, past, up_to));
-        ended = nothing_ended table x s;
-      } in
-      record { going = subst (λ n. IsGoing table x s n row n 0) begin first; low = omega arith }
+  pub reading_begins : (row : ℕ) → from ≤ s → s < length x → row ≡ short_stride table → IsReading table x from s (s - from) row (s - from) 0
+  reading_begins row behind inside start =
+      let begin : s ≡ from + (s - from) = omega arith in record {
+        going = subst (λ n. IsGoing table x s n row n 0) begin (goes_first keeps x s text row (omega (arith, inside)) start);
+        low = omega arith;
+      }
 
   module _ {categories : List ℕ} (read : AreRead table x from categories) where
     -- the place of the move of a category
@@ -74,13 +51,7 @@ module _ {table : Table} {numbers kept moves near : List ℕ} (keeps : IsShortKe
         IsTurn table x s (from + at) (get_or moves (row + (get_or categories at 0 + 1)) 0) (from + end) end_row
     turn_read at row end end_row low reading =
         let place = placed at low in
-        record {
-          from = reading.going.from;
-          to = place.0;
-          going = reading.going.going;
-          move = move_read keeps x s text (from + at) row (get_or categories at 0 + 1) reading.going.from place.0 reading.going.row_is place.1;
-          ended = reading.going.ended;
-        }
+        goes_to keeps x s text (from + at) row (get_or categories at 0 + 1) (from + end) end_row reading.going place.0 place.1
 
   next_place : (at : ℕ) → suc (from + at) ≡ from + (at + 1)
   next_place at = omega arith
@@ -88,25 +59,17 @@ module _ {table : Table} {numbers kept moves near : List ℕ} (keeps : IsShortKe
   -- a rule ends at the row that it moves to
   pub reading_ends : (at next end end_row : ℕ) → IsTurn table x s (from + at) next (from + end) end_row → next % 4 ≢ 3 →
       IsReading table x from s (at + 1) (next / 4 * 4) (at + 1) (next / 4 * 4)
-  reading_ends at next end end_row turn isnt =
-      let onward = turn_onward keeps x s text (from + at) next (from + end) end_row turn isnt in
-      let row_is = move_place keeps x s text (suc (from + at)) next turn.move in
-      let here : IsGoing table x s (suc (from + at)) (next / 4 * 4) (suc (from + at)) (next / 4 * 4) = record {
-        from = omega (arith, turn.from);
-        row_is = row_is;
-        going = onward.going;
-        ended = subst (λ n. IsShortEnd table x s (suc (from + at)) (suc (from + at)) n) (sym row_is) (ends_now table x s (suc (from + at)) onward);
-      } in
-      record { going = subst (λ n. IsGoing table x s n (next / 4 * 4) n (next / 4 * 4)) (next_place at) here; low = omega arith }
+  reading_ends at next end end_row turn isnt = record {
+    going = subst (λ n. IsGoing table x s n (next / 4 * 4) n (next / 4 * 4)) (next_place at)
+        (goes_ended keeps x s text (from + at) next (from + end) end_row turn isnt);
+    low = omega arith;
+  }
 
   -- no rule ends there
   pub reading_on : (at next end end_row : ℕ) → IsTurn table x s (from + at) next (from + end) end_row → next % 4 ≡ 3 → next ≢ 3 → end ≤ at →
       IsReading table x from s (at + 1) (next / 4 * 4) end end_row
-  reading_on at next end end_row turn kind other low =
-      let here : IsGoing table x s (suc (from + at)) (next / 4 * 4) (from + end) end_row = record {
-        from = omega (arith, turn.from);
-        row_is = move_place keeps x s text (suc (from + at)) next turn.move;
-        going = going_on keeps x s text (from + at) next (from + end) end_row turn kind other;
-        ended = plain_ended keeps x s text (from + at) next (from + end) end_row turn.move kind turn.ended;
-      } in
-      record { going = subst (λ n. IsGoing table x s n (next / 4 * 4) (from + end) end_row) (next_place at) here; low = omega (arith, low) }
+  reading_on at next end end_row turn kind other low = record {
+    going = subst (λ n. IsGoing table x s n (next / 4 * 4) (from + end) end_row) (next_place at)
+        (goes_plain keeps x s text (from + at) next (from + end) end_row turn kind other);
+    low = omega (arith, low);
+  }

@@ -11,6 +11,7 @@ use Rattle.rbbi_model.proofs.Found.{least_lies, some_same, none_some}
 use Rattle.rbbi_model.proofs.SearchFacts.{least_is}
 use Rattle.rbbi_model.proofs.Cuts.{greatest_is, cut_is}
 use Rattle.rbbi_table.specs.Kept.{stride}
+use Rattle.rbbi_table.specs.inner.Searching.{ends_at}
 
 and_false : (a b : Bool) → b ≡ false → (a && b) ≡ false
 and_false true b is = is
@@ -22,10 +23,6 @@ not_less m n most = ⊎_elim (λ is. absurd (omega (arith, most, ltb-true m n is
 is_some_one : (place : Option ℕ) → IsSome place → (q : ℕ) × (place ≡ Some q)
 is_some_one None is = absurd (false≢true is)
 is_some_one (Some q) is = (q, refl)
-
--- some rule ends at the place, and no look-ahead rule
-abbrev pub ends_at : Table → List ℕ → ℕ → ℕ → Bool
-ends_at table x s q = ltb s q && eqb (accept_of table (row_at table x s q)) 1
 
 -- the front of the look-ahead rule ends at the place
 abbrev pub front_at : Table → List ℕ → ℕ → ℕ → ℕ → Bool

@@ -13,10 +13,10 @@ use Rattle.rbbi_table.specs.Blocks.{in_block}
 use Rattle.rbbi_table.specs.Kept.{stride}
 use Rattle.rbbi_table.specs.Kinds.{IsLike}
 use Rattle.rbbi_table.specs.Short.{IsShortKept, short_stride, short_move}
-use Rattle.rbbi_table.specs.inner.Searching.{IsOnward, IsMoveTo}
+use Rattle.rbbi_table.specs.inner.Searching.{IsOnward, IsMoveTo, IsShortEnd, IsGoing, ends_at}
 use Rattle.rbbi_table.proofs.MoveLemmas.{row_end}
 use Rattle.rbbi_table.proofs.ShortLemmas.{stride_above, split_move}
-use Rattle.rbbi_table.proofs.SearchLemmas.{IsSearch, IsEnd, ends_at, ended_before, stops_first, stops_last, finds_longest, looks_to_stop, looks_past}
+use Rattle.rbbi_table.proofs.SearchLemmas.{IsSearch, IsEnd, ended_before, stops_first, stops_last, finds_longest, looks_to_stop, looks_past}
 use Rattle.rbbi_table.proofs.StepLemmas.{IsFound, text_at}
 
 -- a rule ends at the row, so the search goes on there
@@ -37,12 +37,6 @@ plain_goes table valid none row within some isnt =
 
 goes_uncompleted : (table : Table) (row : ℕ) → stops table row ≡ false → completes table row ≡ false
 goes_uncompleted table row going = (or_parts (eqb row 0) (completes table row) going).1
-
--- the last place at which a rule ended, and where its row begins in the short moves; or the start, and 0
-abbrev pub IsShortEnd : Table → List ℕ → ℕ → ℕ → ℕ → ℕ → Type 0
-IsShortEnd table x s at end end_row =
-    ((end ≡ s) × (end_row ≡ 0) × (greatest_below (ends_at table x s) (suc at) ≡ None))
-    ⊎ ((s < end) × (end_row ≡ row_at table x s end * short_stride table) × (greatest_below (ends_at table x s) (suc at) ≡ Some end))
 
 -- what is known where a search has moved on by a character
 pub record IsTurn (table : Table) (x : List ℕ) (s last next end end_row : ℕ) : Type 0 where
@@ -320,7 +314,7 @@ module _ {table : Table} {numbers kept moves near : List ℕ} (keeps : IsShortKe
       (let e : 0 * short_stride table + next % 4 ≡ 3 = omega (arith, kind) in e)) in
       plain_goes table keeps.valid keeps.in_moves.none r (within_rows (suc last)) some (unended last next turn.move kind)
 
-  pub going_on : (last next end end_row : ℕ) → IsTurn table x s last next end end_row → next % 4 ≡ 3 → next ≢ 3 →
+  going_on : (last next end end_row : ℕ) → IsTurn table x s last next end end_row → next % 4 ≡ 3 → next ≢ 3 →
       (z : ℕ) → s < z → z ≤ suc last → stops table (row_at table x s z) ≡ false
   going_on last next end end_row turn kind other z past up_to =
       ⊎_elim
@@ -328,22 +322,20 @@ module _ {table : Table} {numbers kept moves near : List ℕ} (keeps : IsShortKe
       (λ less. turn.going z past (omega (arith, up_to, less)))
       (cases_eq z (suc last))
 
-  -- the text ends where no rule ends
-  pub text_ends : (last next end end_row : ℕ) → IsTurn table x s last next end end_row → next % 4 ≡ 3 → next ≢ 3 → suc last ≡ length x →
+  -- the text ends where the search goes on
+  pub goes_last : (at row end end_row : ℕ) → IsGoing table x s at row end end_row → s < length x → at ≡ length x →
       IsFound table x s (cond (ltb s end) end (s + 1)) (cond (ltb s end) (get_or moves end_row 0) 0) (length x + 1)
-  text_ends last next end end_row turn kind isnt whole =
-      let r : ℕ = row_at table x s (suc last) in
-      let other = other_end table x s last end end_row turn.ended in
-      let ended = ended_on last next end other.0 turn.move kind other.1 in
-      let going = going_on last next end end_row turn kind isnt in
-      let all = searched (suc last) end other.0 (omega (arith, turn.from)) (omega (arith, turn.to)) going ended in
-      let at_end = stops_last table x s (suc last) (r * stride table) end other.0 [] all (omega (arith, turn.from, turn.to)) whole in
-      let goes : stops table r ≡ false = going (suc last) (omega (arith, turn.from)) (omega arith) in
-      let finds = finds_longest table x s (suc last) end other.0 at_end (goes_uncompleted table r goes) ended in
+  goes_last at row end end_row here inside whole =
+      let r : ℕ = row_at table x s at in
+      let other = other_end table x s at end end_row here.ended in
+      let all = searched at end other.0 here.from here.to here.going other.1 in
+      let at_end = stops_last table x s at (r * stride table) end other.0 [] all inside whole in
+      let goes : stops table r ≡ false = here.going at (omega (arith, inside, whole)) (omega arith) in
+      let finds = finds_longest table x s at end other.0 at_end (goes_uncompleted table r goes) other.1 in
       record {
         at_is = sym finds.0;
-        list_is = end_list table moves x s last end end_row lists within_rows turn.ended ∙ sym finds.1;
-        look_is = looks_past table x s (suc last) at_end goes;
+        list_is = end_list table moves x s at end end_row lists within_rows here.ended ∙ sym finds.1;
+        look_is = looks_past table x s at at_end goes;
       }
 
   -- the turn after a stretch
@@ -358,7 +350,7 @@ module _ {table : Table} {numbers kept moves near : List ℕ} (keeps : IsShortKe
   }
 
   -- what ended last, after a character at which no rule ends
-  pub plain_ended : (last next end end_row : ℕ) → IsMoveTo table x s (suc last) next → next % 4 ≡ 3 → IsShortEnd table x s last end end_row →
+  plain_ended : (last next end end_row : ℕ) → IsMoveTo table x s (suc last) next → next % 4 ≡ 3 → IsShortEnd table x s last end end_row →
       IsShortEnd table x s (suc last) end end_row
   plain_ended last next end end_row move kind ended =
       let fails : ends_at table x s (suc last) ≡ false = and_not (ltb s (suc last)) (eqb (accept_of table (row_at table x s (suc last))) 1)
@@ -370,6 +362,48 @@ module _ {table : Table} {numbers kept moves near : List ℕ} (keeps : IsShortKe
       and_not : (a b : Bool) → b ≡ false → (a && b) ≡ false
       and_not true b is = is
       and_not false b is = refl
+
+  -- the search goes on after a character at which a rule ends
+  pub goes_ended : (last next end end_row : ℕ) → IsTurn table x s last next end end_row → next % 4 ≢ 3 →
+      IsGoing table x s (suc last) (next / 4 * 4) (suc last) (next / 4 * 4)
+  goes_ended last next end end_row turn isnt =
+      let onward = turn_onward last next end end_row turn isnt in
+      let row_is = move_place (suc last) next turn.move in
+      record {
+        from = omega (arith, turn.from);
+        to = onward.to;
+        row_is = row_is;
+        going = onward.going;
+        ended = subst (λ n. IsShortEnd table x s (suc last) (suc last) n) (sym row_is) (ends_now table x s (suc last) onward);
+      }
+
+  -- and after one at which none does
+  pub goes_plain : (last next end end_row : ℕ) → IsTurn table x s last next end end_row → next % 4 ≡ 3 → next ≢ 3 →
+      IsGoing table x s (suc last) (next / 4 * 4) end end_row
+  goes_plain last next end end_row turn kind other = record {
+    from = omega (arith, turn.from);
+    to = turn.to;
+    row_is = move_place (suc last) next turn.move;
+    going = going_on last next end end_row turn kind other;
+    ended = plain_ended last next end end_row turn.move kind turn.ended;
+  }
+
+  -- the text ends where no rule ends
+  pub text_ends : (last next end end_row : ℕ) → IsTurn table x s last next end end_row → next % 4 ≡ 3 → next ≢ 3 → suc last ≡ length x →
+      IsFound table x s (cond (ltb s end) end (s + 1)) (cond (ltb s end) (get_or moves end_row 0) 0) (length x + 1)
+  text_ends last next end end_row turn kind other whole =
+      goes_last (suc last) (next / 4 * 4) end end_row (goes_plain last next end end_row turn kind other) (omega (arith, turn.from, turn.to)) whole
+
+  -- a search that goes on reads the next character
+  pub goes_to : (at row place end end_row : ℕ) → IsGoing table x s at row end end_row → at < length x →
+      place ≡ in_block numbers kept (get_or x at 0) + 1 → IsTurn table x s at (get_or moves (row + place) 0) end end_row
+  goes_to at row place end end_row here short place_is = record {
+    from = here.from;
+    to = short;
+    going = here.going;
+    move = move_read at row place here.from short here.row_is place_is;
+    ended = here.ended;
+  }
 
   -- the turn after a character at which no rule ends
   pub turn_on : (last next next' end end_row : ℕ) → IsTurn table x s last next end end_row → next % 4 ≡ 3 → next ≢ 3 → suc last < length x →
@@ -392,5 +426,15 @@ module _ {table : Table} {numbers kept moves near : List ℕ} (keeps : IsShortKe
     to = short;
     going = λ z past up_to. absurd (omega arith);
     move = move;
+    ended = nothing_ended table x s;
+  }
+
+  -- a search goes on at its start
+  pub goes_first : (row : ℕ) → s ≤ length x → row ≡ short_stride table → IsGoing table x s s row s 0
+  goes_first row inside start = record {
+    from = omega arith;
+    to = inside;
+    row_is = start ∙ (let e : short_stride table ≡ 1 * short_stride table = omega arith in e) ∙ ap (λ n. n * short_stride table) (sym begins_at);
+    going = λ z past up_to. absurd (omega (arith, past, up_to));
     ended = nothing_ended table x s;
   }

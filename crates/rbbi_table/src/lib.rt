@@ -30,7 +30,7 @@ pub use error::TableErr;
 pub use front_places::FrontPlaces;
 pub use list::{ByteList, CellList, NumberList, NumberLists, PartList, RangeList, RowList};
 pub use parts::{Parts, RangeRow, RowHead};
-pub use safe::safe_pairs;
 pub use read_search::ShortTable;
+pub use safe::safe_pairs;
 pub use search::Found;
 pub use table::Table;

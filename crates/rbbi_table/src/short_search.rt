@@ -29,7 +29,7 @@ pub(crate) const STOP: u16 = OTHER;
 
 /// The place of a character's move after the beginning of a row.
 #[inline(always)]
-fn place_of(near: &[u8], numbers: &[u16], kept: &[u16], c: char) -> usize
+pub(crate) fn place_of(near: &[u8], numbers: &[u16], kept: &[u16], c: char) -> usize
     requires near { AreNear numbers.now kept.now near.now }
     requires all { length numbers.now ≡ 4352 }
     requires whole { (block : ℕ) → block < 4352 →
