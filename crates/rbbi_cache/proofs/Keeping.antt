@@ -100,6 +100,10 @@ module _ (table : Table) (valid : IsValidTable table) (x : List ℕ) where
     keeps_shown slice inside same view k at now moved =
         keeps_used at.before at.run at.after (sym view ∙ sym same ∙ at.whole) at.such now (moved at.before at.after at.run (sym same ∙ at.whole) at.number)
 
+    -- The first run was used.
+    pub keeps_first : (now : List Run) → now ≡ former → HasAt former 0 Shows → KeepsTrue table x Shows former now
+    keeps_first now same at = keeps_shown former now (sym same) same 0 at now (first_stays now 0 refl)
+
     -- A new run was put before the others.
     pub keeps_added : (run : Run) → IsTrueRun table x run → Shows run → HasLeastReaches table x former run → (now : List Run) → IsPutFirst run former now →
         KeepsTrue table x Shows former now

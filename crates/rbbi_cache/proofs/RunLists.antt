@@ -1,10 +1,12 @@
 -- Runs at their places in a list.
 use Rattle.std.proofs.Common.{◌≡◌, ℕ, suc, ◌+◌, ◌-◌, ◌<◌, List, [], ◌∷◌, ◌++◌, length, length-append, length-take, take, drop, get_or, sym, ap, ◌∙◌, subst}
 use Rattle.std.proofs.Common.{refl, append_assoc, arith}
-use Rattle.std.specs.List.{AllByRecursion}
+use Rattle.std.specs.List.{AllByRecursion, slice_get}
 use Rattle.std.proofs.lemmas.List.{take-append-drop, take_more}
 use Rattle.std.proofs.Math.Seq.{drop-cons, take-append_seam, drop-append_seam}
-use Rattle.rbbi_model.specs.Runs.{Run}
+use Rattle.std.specs.Prelude.{Option, Some, None, MatchOption, ⊤, unwrap_or}
+use Rattle.rbbi_model.specs.Runs.{Entry, Run}
+use Rattle.rbbi_cache.specs.Shown.{IsShownBefore}
 use Rattle.rbbi_model.proofs.Lists.{all_append}
 use Rattle.rbbi_cache.specs.inner.Lists.{HasAt}
 
@@ -17,6 +19,19 @@ has_at P runs k run short is such = record {
   number = omega (arith, length-take k runs);
   such = such;
 }
+
+-- what the first run shows before a place stands at the front
+pub front_shows : (runs : List Run) (run : Run) → Some run ≡ slice_get runs 0 → (i : ℕ) (found : Option Entry) →
+    MatchOption found ⊤ (λ entry. (x : List ℕ) → IsShownBefore x run i entry) →
+    MatchOption found ⊤ (λ entry. (x : List ℕ) → HasAt runs 0 (λ r. IsShownBefore x r i entry))
+front_shows runs run first i None shown = shown
+front_shows [] run first i (Some entry) shown = absurd (no_first first)
+  where
+    no_first : Some run ≡ None → ⊥
+    no_first same = cc
+front_shows (other ∷ runs) run first i (Some entry) shown = λ x.
+    let same : run ≡ other = ap (λ (o : Option Run). unwrap_or o run) first in
+    record { before = []; run = other; after = runs; whole = refl; number = refl; such = subst (λ r. IsShownBefore x r i entry) same (shown x) }
 
 pub one_more : (P : Run → Type 0) (runs : List Run) (k : ℕ) (run : Run) → k < length runs → run ≡ get_or runs k run → AllByRecursion P (take k runs) →
     P run → AllByRecursion P (take (k + 1) runs)

@@ -214,6 +214,34 @@ module _ (x : List ℕ) (run : Run) (i count : ℕ) (d : Entry) (some : 0 < i) (
             (subst (λ l. AllByRecursion (λ f. f.at ≤ length x) l) split within)).0 in
             omega (arith, up, down, shows.at)
 
+next_rises : (entries : List Entry) (k : ℕ) (d e : Entry) → IsRising (map (λ f. f.at) entries) → suc k < length entries →
+    (get_or entries k d).at < (get_or entries (suc k) e).at
+next_rises [] k d e rising short = absurd (omega arith)
+next_rises (f ∷ []) k d e rising short = absurd (omega arith)
+next_rises (f ∷ g ∷ entries) zero d e rising short = rising.0
+next_rises (f ∷ g ∷ entries) (suc k) d e rising short = next_rises (g ∷ entries) k d e rising.1 (omega arith)
+
+-- the entry before the one at the place is shown
+pub one_before : (x : List ℕ) (run : Run) (i n k : ℕ) (next entry : Entry) → IsRising (map (λ f. f.at) run.entries) → n ≡ suc k → n < length run.entries →
+    (get_or run.entries n next).at ≡ i → IsShownBefore x run i (get_or run.entries k entry)
+one_before x run i n k next entry rising follows short at =
+    let some : suc k < length run.entries = omega arith in
+    let there : (get_or run.entries (suc k) next).at ≡ i = subst (λ m. (get_or run.entries m next).at ≡ i) follows at in (
+      record {
+        before = take k run.entries;
+        entry = get_or run.entries k entry;
+        after = drop (k + 1) run.entries;
+        whole = parted_at run.entries k entry (omega arith);
+        at = refl;
+        short_of = let less = next_rises run.entries k entry next rising some in omega (arith, less, there);
+        nearest = inl (subst (λ l. StartsFrom l i) (sym (ap (λ m. drop m run.entries) (add-one k) ∙ drop-cons run.entries (suc k) next some)) (omega (
+          arith,
+          there,
+        )));
+      },
+      refl,
+    )
+
 past_anchor : (p i : ℕ) → i < p → i + 1 < low p
 past_anchor p i before = omega (arith, cond-false (eqb p 0) 1 (p + 2) (ne_eqb p 0 (λ (zero : p ≡ 0). omega arith)))
 

@@ -1,5 +1,5 @@
 //! The last boundary before a place: whether a kept run shows it, and else the search for it.
-ghost use Rattle.std.specs.Prelude.{◌≡◌, ℕ, ◌+◌, ◌<◌, ◌≤◌, length, map, drop, MatchOption};
+ghost use Rattle.std.specs.Prelude.{◌≡◌, ℕ, ◌+◌, ◌<◌, ◌≤◌, length, map, drop, MatchOption, ⊤};
 ghost use Rattle.std.specs.Prelude.{List};
 ghost use Rattle.std.specs.List.{AllByRecursion};
 ghost use Rattle.rbbi_model.specs.Lists.{IsRising};
@@ -21,6 +21,18 @@ use rbbi_text::{Chars, Near, Steps};
 use std::sync::ledger::Ledger;
 
 impl Cache {
+    /// The last boundary before `i`, if the entry of the first run that was shown last lies there.
+    #[inline(always)]
+    pub(crate) fn step_before(&self, hint: &mut usize, i: u32) -> Option<Entry>
+        requires { AllByRecursion (λ run. IsRising (map (λ entry. entry.at) run.entries))
+            self.now.runs }
+        ensures { MatchOption result ⊤ (λ entry. (x : List ℕ) →
+            HasAt self.now.runs 0 (λ run. IsShownBefore x run i entry)) }
+    {
+        let run = self.runs.as_slice().first()?;
+        run.step_before(hint, i)
+    }
+
     /// As `find_before` for the kept runs. If no other one can show it, only the first is asked.
     pub(crate) fn find_shown_before(&self, hint: &mut usize, len: u32, i: u32) -> Option<Shown>
         requires ordered { AllByRecursion (IsOrdered len) self.now.runs }
@@ -135,6 +147,7 @@ impl Cache {
         ) else {
             return START;
         };
+        self.hint = self.spare.len().saturating_sub(2);
         let count = self.count_extendable(&self.spare);
         let (from, to) = self.apart_around(i);
         self.quiet_to = 0;

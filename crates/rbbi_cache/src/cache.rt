@@ -51,7 +51,7 @@ pub struct Cache {
     /// the second.
     pub(crate) apart_from: u32,
     pub(crate) apart_to: u32,
-    /// Which entry of the first run was the last answer that was shown.
+    /// Which entry of the first run was the last answer that was shown, or found by a search back.
     pub(crate) hint: usize,
 }
 
@@ -174,8 +174,12 @@ impl Cache {
         if i == 0 {
             return None;
         }
-        let len = text.len();
         let mut hint = self.hint;
+        if let Some(entry) = self.step_before(&mut hint, i) {
+            self.hint = hint;
+            return Some(entry);
+        }
+        let len = text.len();
         if let Some(shown) = self.find_shown_before(&mut hint, len, i) {
             self.hint = hint;
             if shown.run > 0 {

@@ -143,6 +143,26 @@ impl Run {
         None
     }
 
+    /// The last boundary before `i`, if the entry with the number `hint` lies there: the one before
+    /// that. So going back from boundary to boundary takes no search. The hint becomes its number.
+    #[inline(always)]
+    pub(crate) fn step_before(&self, hint: &mut usize, i: u32) -> Option<Entry>
+        requires { IsRising (map (λ entry. entry.at) self.now.entries) }
+        ensures { MatchOption result ⊤ (λ entry. (x : List ℕ) → IsShownBefore x self.now i entry) }
+    {
+        let entries = self.entries();
+        let k = *hint;
+        if k == 0 || k >= entries.len() {
+            return None;
+        }
+        let next = entries[k];
+        if next.at != i {
+            return None;
+        }
+        *hint = k - 1;
+        Some(entries[k - 1])
+    }
+
     /// Up to before which place, at most the one given, the run shows no boundary from `i` on.
     pub(crate) fn quiet_to(&self, i: u32, to: u32) -> u32
         requires rising { IsRising (map (λ entry. entry.at) self.now.entries) }
