@@ -493,14 +493,19 @@ def script_calls(bench, words):
         line = Line(f'`run`, word.rules, prose, {size // 1_000_000} M: {CALLS[call][0]}', lacking)
         if not lacking:
             text = inputs.make_text(bench.folder, 'prose', size)
-            none, many = (bench.seconds(words + [text, call_file(bench, size, call, made)])
-                          for made in (0, count))
-            beside_call(bench, line, call, size, (many - none) / count)
+            none, many = (bench.program + words + [text, call_file(bench, size, call, made)] for made in (0, count))
+            beside_call(bench, line, call, size, least_difference(none, many) / count)
         yield line
 
 
 def call_file(bench, size, call, count):
     return bench.file(f'{call}-{count}', inputs.call_script(size, call, count))
+
+
+def least_difference(few, many):
+    """The seconds of one command less those of another, of each the least of nine runs, taken in turn."""
+    runs = [(measure(few).seconds, measure(many).seconds) for _ in range(9)]
+    return min(run[1] for run in runs) - min(run[0] for run in runs)
 
 
 def beside_call(bench, line, call, size, seconds):
@@ -621,9 +626,8 @@ def session_calls(bench):
         line.verdict = bench.lacking_part(['session', table, '0', text, call])
         if not line.verdict:
             count *= size // ONE_MILLION
-            none, many = (bench.best([bench.parts, 'session', table, str(rounds), text, call]).seconds
-                          for rounds in (0, count))
-            beside_call(bench, line, call, size, (many - none) / count)
+            none, many = ([bench.parts, 'session', table, str(rounds), text, call] for rounds in (0, count))
+            beside_call(bench, line, call, size, least_difference(none, many) / count)
         yield line
 
 
