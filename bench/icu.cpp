@@ -18,6 +18,7 @@
 #include <fstream>
 #include <iterator>
 #include <limits>
+#include <map>
 #include <memory>
 #include <string>
 #include <vector>
@@ -90,28 +91,53 @@ static void print_boundaries(RuleBasedBreakIterator &breaks, const UnicodeString
     std::fwrite(out.data(), 1, out.size(), stdout);
 }
 
-// A question of a script: `following`, `preceding` or `is`, and a place in UTF-16 units.
+// A line of a script. A question has a place in UTF-16 units, and `replace` also `1 x`.
+enum Kind { NEXT, PREVIOUS, FOLLOWING, PRECEDING, IS, REPLACE };
+
 struct Question {
-    char kind;
+    Kind kind;
     int32_t place;
 };
 
 static std::vector<Question> read_questions(const char *name) {
+    static const std::map<std::string, Kind> KINDS = {
+        {"next", NEXT}, {"previous", PREVIOUS}, {"following", FOLLOWING},
+        {"preceding", PRECEDING}, {"is", IS}, {"replace", REPLACE}};
     std::ifstream file(name);
     std::vector<Question> questions;
     std::string word;
-    int32_t place;
-    while (file >> word >> place) questions.push_back({word[0], place});
+    while (file >> word) {
+        Question question = {KINDS.at(word), 0};
+        if (question.kind >= FOLLOWING) file >> question.place;
+        if (question.kind == REPLACE) file >> word >> word;
+        questions.push_back(question);
+    }
     return questions;
 }
 
-// Asks all questions, and gives a sum of the answers, so that none is left out.
-static int64_t ask(RuleBasedBreakIterator &breaks, const std::vector<Question> &questions) {
+// Has ICU look at a text where it is, as it is now: a shared one would be copied before an edit.
+static void look_at(RuleBasedBreakIterator &breaks, const UnicodeString &text) {
+    static UText *view = nullptr;
+    UErrorCode status = U_ZERO_ERROR;
+    view = utext_openConstUnicodeString(view, &text, &status);
+    breaks.setText(view, status);
+}
+
+// Asks all questions of a text, and gives a sum of the answers, so that none is left out. An edit puts
+// an `x` in place of a unit.
+static int64_t ask(RuleBasedBreakIterator &breaks, UnicodeString &text, const std::vector<Question> &questions) {
     int64_t sum = 0;
     for (const Question &question : questions) {
-        if (question.kind == 'f') sum += breaks.following(question.place);
-        else if (question.kind == 'p') sum += breaks.preceding(question.place);
-        else sum += breaks.isBoundary(question.place);
+        switch (question.kind) {
+        case NEXT: sum += breaks.next(); break;
+        case PREVIOUS: sum += breaks.previous(); break;
+        case FOLLOWING: sum += breaks.following(question.place); break;
+        case PRECEDING: sum += breaks.preceding(question.place); break;
+        case IS: sum += breaks.isBoundary(question.place); break;
+        case REPLACE:
+            text.setCharAt(question.place, u'x');
+            look_at(breaks, text);
+        }
     }
     return sum;
 }
@@ -145,8 +171,8 @@ int main(int count, char **words) {
         std::vector<Question> questions = read_questions(words[4]);
         volatile int64_t sum = 0;
         double passed = least_seconds(std::atoi(words[5]), [&] {
-            breaks->setText(text);
-            sum = ask(*breaks, questions);
+            look_at(*breaks, text);
+            sum = ask(*breaks, text, questions);
         });
         std::printf("%zu %.6f\n", questions.size(), passed);
         return 0;

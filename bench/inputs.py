@@ -466,6 +466,22 @@ def question_script(size, count, number):
     return ''.join(f'{next(words)} {source.randrange(1, size)}\n' for _ in range(count))
 
 
+# The calls of a session, by what bench/table.py names them, and how many of each a script has, of at most 1 MiB.
+CALL_LINES = {
+    'next': ('next', 100_000), 'previous': ('previous', 100_000), 'following': ('following {0}', 50_000),
+    'preceding': ('preceding {0}', 50_000), 'is_boundary': ('is {0}', 50_000),
+    'change': ('replace {0} 1 x\npreceding {1}\nfollowing {0}', 16_000),
+}
+
+
+def call_script(size, call, count):
+    """So many of one call over a text of `size` characters: from the middle, or at random places."""
+    source = random.Random(f'calls {size}')
+    places = (source.randrange(size) for _ in range(count))
+    line, _ = CALL_LINES[call]
+    return f'following {size // 2}\n' + ''.join(line.format(place, place + 1) + '\n' for place in places)
+
+
 def write_file(folder, name, text):
     path = os.path.join(folder, name)
     with open(path, 'w', encoding='utf-8', newline='') as file:

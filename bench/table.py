@@ -483,6 +483,40 @@ def questions(bench):
             line.icu, line.ratio = time_text(asked), f'{asked / passed:.2f}'
             line.verdict = 'met' if passed <= 0.6 * asked else f"{passed / asked:.2f} of ICU's"
     yield line
+    yield from script_calls(bench, words)
+
+
+def script_calls(bench, words):
+    """Each call in a script, less what a script without one takes, beside ICU's."""
+    lacking = bench.lacking(words + [bench.tiny(), bench.file('one.script', 'next\n')])
+    for (call, (_, count)), size in itertools.product(inputs.CALL_LINES.items(), bench.sizes):
+        line = Line(f'`run`, word.rules, prose, {size // 1_000_000} M: {CALLS[call][0]}', lacking)
+        if not lacking:
+            text = inputs.make_text(bench.folder, 'prose', size)
+            none, many = (bench.program + words + [text, call_file(bench, size, call, made)] for made in (0, count))
+            beside_call(bench, line, call, size, least_difference(none, many) / count)
+        yield line
+
+
+def call_file(bench, size, call, count):
+    return bench.file(f'{call}-{count}', inputs.call_script(size, call, count))
+
+
+def least_difference(few, many):
+    """The seconds of one command less those of another, of each the least of nine runs, taken in turn."""
+    runs = [(measure(few).seconds, measure(many).seconds) for _ in range(9)]
+    return min(run[1] for run in runs) - min(run[0] for run in runs)
+
+
+def beside_call(bench, line, call, size, seconds):
+    """Puts into a line the seconds of a call over the prose, and those of ICU's in a script."""
+    seconds = max(seconds, 1e-9)
+    line.time = time_text(seconds)
+    if bench.icu:
+        _, count = inputs.CALL_LINES[call]
+        text, script = inputs.make_text(bench.folder, 'prose', size), call_file(bench, size, call, count)
+        _, asked = bench.icu_answer(['questions', bench.rules('word')[2], text, script, '5'])
+        line.icu, line.ratio = time_text(asked / count), f'{asked / count / seconds:.2f}'
 
 
 def nexts(bench):
@@ -580,6 +614,21 @@ def parts(bench):
         yield part(bench, 'a million `char_at` at random places of 12 M characters by pieces, ' + said,
                    target, ['places', text], 10_000_000, 1_000_000, behind=[edits])
     yield scanning(bench)
+    yield from session_calls(bench)
+
+
+def session_calls(bench):
+    """Each call of a session in Rattle, beside ICU's."""
+    table = table_file(bench, 'word')
+    for (call, (_, count)), size in itertools.product(inputs.CALL_LINES.items(), bench.sizes):
+        text = inputs.make_text(bench.folder, 'prose', size)
+        line = Line(f'a session in Rattle, word.rules, prose, {size // 1_000_000} M: {CALLS[call][0]}')
+        line.verdict = bench.lacking_part(['session', table, '0', text, call])
+        if not line.verdict:
+            count *= size // ONE_MILLION
+            none, many = ([bench.parts, 'session', table, str(rounds), text, call] for rounds in (0, count))
+            beside_call(bench, line, call, size, least_difference(none, many) / count)
+        yield line
 
 
 def part(bench, what, target, words, rounds, counted=1, memory=None, behind=()):
@@ -701,8 +750,8 @@ def python(bench):
 GROUPS = [start, texts, printing, compiling, front, limits, tables, loop, sessions, questions, units,
           segment_units, filters, same, tally, nexts, kit, tests, demo, parts, python, calls]
 
-# The groups that don't run the program that is measured.
-WITHOUT_PROGRAM = [segment_units, parts]
+# The group that doesn't run the program that is measured.
+WITHOUT_PROGRAM = [segment_units]
 
 # The groups that want the program of single calls, and the C library.
 OF_PARTS = [loop, nexts, kit, parts, calls]

@@ -10,6 +10,7 @@ ghost use Rattle.rbbi_text.specs.Bytes.{most_bytes};
 mod kit;
 mod parts;
 mod rules;
+mod sessions;
 
 use kit::measure_kit;
 use parts::{measure_categories, measure_nexts, measure_places, measure_positions};
@@ -17,6 +18,7 @@ use rbbi_file::read_table;
 use rbbi_io::{Files, RealFiles, words};
 use rbbi_text::{MOST_BYTES, Raw, Steps};
 use rules::table_of;
+use sessions::measure_session;
 use std::alloc::Global;
 use std::io;
 use std::marker::Brand;
@@ -58,6 +60,12 @@ fn run<L: Ledger>(rt: &HostRuntime, words: &Vec<String>, blank: Blank) -> Option
             measure_nexts(alloc, &table, &text, words.len() > 4, rounds, &mut steps)
         }
         "kit" => measure_kit(file.bytes(&mut steps), words.get(3)?.as_str(), rounds),
+        "session" => {
+            let text = read(alloc, &mut files, words.get(3)?.as_str())?;
+            let table = read_table(alloc, file.bytes(&mut steps)).ok()?;
+            let call = words.get(4)?.as_str();
+            measure_session(alloc, &table, &text, call, rounds, &mut steps)
+        }
         "scan" => {
             let text = read(alloc, &mut files, words.get(3)?.as_str())?;
             let table = table_of(alloc, file.bytes(&mut steps))?;

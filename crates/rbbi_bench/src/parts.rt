@@ -94,13 +94,13 @@ pub(crate) fn measure_nexts<L: Ledger>(
 }
 
 /// The next number of a fixed row of numbers below 2^31.
-fn draw(state: u64) -> u64 {
+pub(crate) fn draw(state: u64) -> u64 {
     state.wrapping_mul(1_103_515_245).wrapping_add(12_345) % 2_147_483_648
 }
 
 /// A place below a length, by a number below 2^31: it takes no division, which would count beside
 /// the call that is measured.
-fn place_by(number: u64, len: u32) -> u32 {
+pub(crate) fn place_by(number: u64, len: u32) -> u32 {
     let product = number.wrapping_mul(u64::from(len));
     (product / 2_147_483_648 % 4_294_967_296) as u32
 }

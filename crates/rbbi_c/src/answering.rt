@@ -30,6 +30,7 @@ fn tell(told: Told, number: &mut u32) -> u32
 }
 
 /// Asks the session that a handle holds, with a counter of its own. It takes no memory.
+#[inline(always)]
 fn ask_counted<L: Ledger>(
     memory: Memory,
     session: &mut Handle,
@@ -59,7 +60,9 @@ fn ask_counted<L: Ledger>(
     code
 }
 
-/// Asks the session that a handle holds. It takes no memory.
+/// Asks the session that a handle holds. It takes no memory. Each export has a copy of this in which
+/// the question is known.
+#[inline(always)]
 pub(crate) fn ask_through(memory: Memory, session: &mut Handle, asked: Ask, number: &mut u32) -> u32
     ensures { AnswersThrough session.old.held (question_of asked) result number.old number.new
         session.new.held }

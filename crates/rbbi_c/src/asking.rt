@@ -41,6 +41,7 @@ pub(crate) fn found(place: Option<u32>) -> Told
 }
 
 /// Asks a session.
+#[inline(always)]
 pub(crate) fn answered<L: Ledger>(
     session: &mut UnitSession<'_, Pieces>,
     asked: Ask,

@@ -112,6 +112,7 @@ impl Desk {
     }
 
     /// What a question answers.
+    #[inline(always)]
     pub(crate) fn ask<L: Ledger>(&mut self, asked: Ask, steps: &mut Steps<L>) -> Told
         ensures told { result ≡ told_of (reply_to unit_view self.old (question_of asked)) }
         ensures asked { IsAsked unit_view self.old (question_of asked) self.new

@@ -95,7 +95,8 @@ impl FilterDesk {
         out
     }
 
-    /// What a question answers.
+    /// What a question answers. It is long, so all exports have one copy.
+    #[inline(never)]
     pub(crate) fn ask<L: Ledger>(&mut self, asked: Ask, steps: &mut Steps<L>) -> Told
         ensures told { result ≡ told_of (reply_to unit_filter_view self.old (question_of asked)) }
         ensures asked { IsAsked unit_filter_view self.old (question_of asked) self.new
