@@ -107,24 +107,14 @@ fn first_try<T: Chars, L: Ledger>(
         return First { anchor, found };
     };
     let back = read_back(table, text, i, slots, steps);
-    let found = if back.from <= back.near {
-        search_read(
-            &short,
-            text,
-            back,
-            &slots[back.start..],
-            i,
-            floor,
-            run,
-            steps,
-        )
-    } else {
-        search_from(table, text, back.near, i, floor, run, marks, steps)
-    };
-    First {
-        anchor: back.near,
-        found,
+    let anchor = back.near;
+    if back.from > anchor {
+        let found = search_from(table, text, anchor, i, floor, run, marks, steps);
+        return First { anchor, found };
     }
+    let read = &slots[back.start..];
+    let found = search_read(&short, text, back, read, i, floor, run, steps);
+    First { anchor, found }
 }
 
 /// As `search_from`, from the near anchor, over what was read back. If it can, it begins at the wide

@@ -41,7 +41,7 @@ loop-here-preserved-then-here-least g c =
     let end : ℕ = c.args.back.from + length c.args.categories.now in
     let next : Entry = record { at = c.in-Some.found.at; status = c.in-Some.found.status; reach = c.max.result } in
     subst (λ r. Fills c.args.table.now (g.T.Chars.characters c.args.text.now) c.args.i c.args.back.near c.args.anchor (c.args.back.from + length c.args.categories.now) next r c.args.steps.now
-    c.next_on.new._steps) (sym c.push.ensures)
+    c.next_on.new.steps) (sym c.push.ensures)
     (fills_found c.args.table.now c.requires.valid (g.T.Chars.characters c.args.text.now) c.args.i c.args.back.near c.args.anchor (c.args.back.from + length c.args.categories.now) c.requires.some
     c.requires.within back.near_is
     (anchor_is c.args.table.now (g.T.Chars.characters c.args.text.now) c.args.i c.args.back.near c.args.back.wide c.args.back.from c.args.categories.now back c.args.anchor c.requires.anchor c.requires.some)
@@ -50,7 +50,7 @@ loop-here-preserved-then-here-least g c =
     (back.end c.requires.covered)
     c.loop-here.here c.loop-here.run c.args.steps.now c.loop-here.steps c.loop-here.invariant c.here.inside.at c.here.inside.reach
     (ap (λ e. e.at) c.here.view_is) (ap (λ e. e.reach) c.here.view_is) (omega arith) c.in-Some.found.status c.in-Some.found.look next
-    c.in-Some.ensures.found refl c.max.ensures c.next_on.new._steps (λ less. c.in-Some.ensures.nothing (lt-leb c.args.back.near c.here.inside.at less)) c.in-Some.ensures.more c.in-Some.ensures.cost
+    c.in-Some.ensures.found refl c.max.ensures c.next_on.new.steps (λ less. c.in-Some.ensures.nothing (lt-leb c.args.back.near c.here.inside.at less)) c.in-Some.ensures.more c.in-Some.ensures.cost
     (omega (arith, c.low-least.ensures, c.if-here-least.true)))
 
 pub loop-here-smaller : goal.loop-here-smaller
@@ -70,7 +70,7 @@ loop-here-preserved g c =
     (back.end c.requires.covered)
     c.loop-here.here c.loop-here.run c.args.steps.now c.loop-here.steps c.loop-here.invariant c.here.inside.at c.here.inside.reach
     (ap (λ e. e.at) c.here.view_is) (ap (λ e. e.reach) c.here.view_is) (omega arith) c.in-Some.found.status c.in-Some.found.look next
-    c.in-Some.ensures.found refl c.max.ensures c.next_on.new._steps (λ less. c.in-Some.ensures.nothing (lt-leb c.args.back.near c.here.inside.at less)) c.in-Some.ensures.more c.in-Some.ensures.cost
+    c.in-Some.ensures.found refl c.max.ensures c.next_on.new.steps (λ less. c.in-Some.ensures.nothing (lt-leb c.args.back.near c.here.inside.at less)) c.in-Some.ensures.more c.in-Some.ensures.cost
     (omega (arith, c.low-least.ensures, c.if-here-least.false))
 
 pub returns-clause-filled : goal.returns-clause-filled
