@@ -37,6 +37,7 @@ same_below test place (suc high) order none =
 
 module _ (table : Table) (x : List ℕ) where
   module _ (end place : ℕ) (slots : List ℕ) (kept : EndWith table x place end slots) (order : place ≤ end) (many : length slots ≡ 64) where
+    -- one more character is kept
     pub keeps_more : (here : ℕ) → 0 < place → end ≤ place - 1 + 64 → here ≡ category_at table x (place - 1) → here < table.categories →
         (slot : ℕ) → slot ≡ place - 1 + 64 - end → EndWith table x (place - 1) end (slice_set slots slot here)
     keeps_more here some room here_is fits slot slot_is = record {

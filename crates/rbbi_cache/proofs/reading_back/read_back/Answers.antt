@@ -30,6 +30,6 @@ returns-clause-back g c =
     are_back c.args.table.now (g.T.Chars.characters c.args.text.now) c.args.i c.in-Some.near _ c.max-from.result _ c.read_on.new.slots
     c.requires.some c.requires.within c.read_on.ensures.room refl lies c.read_on.ensures.kept
     (wide_is c.args.table.now (g.T.Chars.characters c.args.text.now) (c.args.i - 1) c.in-Some.near c.max-from.result c.read_on.new.slots
-    (omega arith) c.read_on.ensures.room lies c.read_on.ensures.kept (omega arith) (omega arith) c.first_safe-first.result _ (omega arith) c.first_safe-first.ensures.from
-    c.first_safe-first.ensures.to c.first_safe-first.ensures.safe)
+    (omega arith) c.read_on.ensures.room lies c.read_on.ensures.kept (omega arith) (omega arith) c.first_safe-first.result _ (omega arith)
+    c.first_safe-first.ensures.from c.first_safe-first.ensures.to c.first_safe-first.ensures.safe)
     (omega arith) (omega arith) (omega arith) (omega arith)
