@@ -36,10 +36,8 @@ same_below test place (suc high) order none =
     (cases_eq place (suc high))
 
 module _ (table : Table) (x : List ℕ) where
-  pub ends_empty : (end : ℕ) (slots : List ℕ) → EndWith table x end end slots
-  ends_empty end slots = record { each = λ p from less. absurd (omega arith); within = λ p from less. absurd (omega arith) }
-
   module _ (end place : ℕ) (slots : List ℕ) (kept : EndWith table x place end slots) (order : place ≤ end) (many : length slots ≡ 64) where
+    -- one more character is kept
     pub keeps_more : (here : ℕ) → 0 < place → end ≤ place - 1 + 64 → here ≡ category_at table x (place - 1) → here < table.categories →
         (slot : ℕ) → slot ≡ place - 1 + 64 - end → EndWith table x (place - 1) end (slice_set slots slot here)
     keeps_more here some room here_is fits slot slot_is = record {
@@ -88,17 +86,6 @@ module _ (table : Table) (x : List ℕ) where
     fits_from room k from less =
         let there : k ≡ k + end - 64 + 64 - end = omega arith in
         subst (λ q. slice_index slots q < table.categories) (sym there) (kept.within (k + end - 64) (omega arith) (omega arith))
-
-  -- the first character is read, and no pair is looked at
-  pub nears_first : (end : ℕ) (slots : List ℕ) → 0 < end → length slots ≡ 64 → (next : ℕ) → next ≡ category_at table x (end - 1) → next < table.categories →
-      Nears table x end (end - 1) next (slice_set slots 63 next)
-  nears_first end slots some many next next_is fits = record {
-    below = omega arith;
-    next_is = next_is;
-    within = fits;
-    none = λ p past from less. absurd (omega arith);
-    kept = keeps_more end end slots (ends_empty end slots) (omega arith) many next some (omega arith) next_is fits 63 (omega arith);
-  }
 
   -- a pair is looked at
   module _ (end place next : ℕ) (slots : List ℕ) (within : end ≤ length x) (nears : Nears table x end place next slots) (some : 0 < place)
@@ -158,9 +145,6 @@ module _ (table : Table) (x : List ℕ) where
         far = inl refl;
         few = omega arith;
       }
-
-  pub near_empty : IsNear table x 0 0
-  near_empty = record { greatest = refl; anchor = inl refl; far = inl refl; few = omega arith }
 
   -- where no anchor was found, a walk from there goes on
   pub goes_on : (end i : ℕ) → end ≡ i - 1 → HasNoneFrom table x end → (found : ℕ) → found ≡ max 0 (anchor_below table x (end - 64)) →

@@ -30,9 +30,9 @@ pub(crate) struct Back {
     pub(crate) start: usize,
 }
 
-/// Reads back, from two characters before a place on, to the greatest anchor three characters before
-/// it or more, and then on to three times as far, but 64 characters in all. The categories are kept
-/// at the end of the slots.
+/// Reads back, from two characters before a place on, to the greatest anchor three characters
+/// before it or more, and then on to three times as far, but 64 characters in all. The categories
+/// are kept at the end of the slots.
 ///
 /// The bound on what `before` reads counts each character back to the anchor twice beside the
 /// searches from there, and these read none of the characters again whose categories are kept.

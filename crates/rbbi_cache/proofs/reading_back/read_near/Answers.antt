@@ -5,7 +5,8 @@ use Rattle.rbbi_cache.proofs.reading_back.read_near.Goals as goal
 
 pub returns-then-is_safe-clause-near : goal.returns-then-is_safe-clause-near
 returns-then-is_safe-clause-near g c =
-    near_found c.args.table.now (g.T.Chars.characters c.args.text.now) c.args.end c.loop-place.place c.loop-place.next c.loop-place.slots c.requires.within c.loop-place.invariant.nears (omega arith)
+    near_found c.args.table.now (g.T.Chars.characters c.args.text.now) c.args.end c.loop-place.place c.loop-place.next c.loop-place.slots
+    c.requires.within c.loop-place.invariant.nears (omega arith)
     c.loop-place.invariant.many (omega arith) c.category-here.result
     (c.category-here.ensures.value ∙ ap (category_of c.args.table.now.ranges) c.char_at-in-loop-place.ensures.character) c.category-here.ensures.within
     (c.loop-place.slot - 1) (omega arith)
@@ -13,7 +14,8 @@ returns-then-is_safe-clause-near g c =
 
 pub returns-then-is_safe-clause-kept : goal.returns-then-is_safe-clause-kept
 returns-then-is_safe-clause-kept g c =
-    kept_on c.args.table.now (g.T.Chars.characters c.args.text.now) c.args.end c.loop-place.place c.loop-place.next c.loop-place.slots c.requires.within c.loop-place.invariant.nears (omega arith)
+    kept_on c.args.table.now (g.T.Chars.characters c.args.text.now) c.args.end c.loop-place.place c.loop-place.next c.loop-place.slots
+    c.requires.within c.loop-place.invariant.nears (omega arith)
     c.loop-place.invariant.many (omega arith) c.category-here.result
     (c.category-here.ensures.value ∙ ap (category_of c.args.table.now.ranges) c.char_at-in-loop-place.ensures.character) c.category-here.ensures.within
     (c.loop-place.slot - 1) (omega arith)
@@ -23,7 +25,8 @@ loop-place-preserved g c = record {
   low = omega arith;
   slot = omega arith;
   many = omega (arith, length-set c.loop-place.slots (c.loop-place.slot - 1) c.category-here.result);
-  nears = nears_on c.args.table.now (g.T.Chars.characters c.args.text.now) c.args.end c.loop-place.place c.loop-place.next c.loop-place.slots c.requires.within c.loop-place.invariant.nears (omega arith)
+  nears = nears_on c.args.table.now (g.T.Chars.characters c.args.text.now) c.args.end c.loop-place.place c.loop-place.next c.loop-place.slots
+      c.requires.within c.loop-place.invariant.nears (omega arith)
       c.loop-place.invariant.many (omega arith) c.category-here.result
       (c.category-here.ensures.value ∙ ap (category_of c.args.table.now.ranges) c.char_at-in-loop-place.ensures.character) c.category-here.ensures.within
       (c.loop-place.slot - 1) (omega arith)
@@ -33,4 +36,5 @@ loop-place-preserved g c = record {
 
 pub returns-then-low-eq0-clause-near : goal.returns-then-low-eq0-clause-near
 returns-then-low-eq0-clause-near g c =
-    near_start c.args.table.now (g.T.Chars.characters c.args.text.now) c.args.end c.loop-place.place c.loop-place.next c.loop-place.slots c.requires.within c.loop-place.invariant.nears (omega arith) (omega arith)
+    near_start c.args.table.now (g.T.Chars.characters c.args.text.now) c.args.end c.loop-place.place c.loop-place.next c.loop-place.slots
+    c.requires.within c.loop-place.invariant.nears (omega arith) (omega arith)
