@@ -18,6 +18,7 @@ pub struct Known {
 
 impl Known {
     /// Where the cursor of a session by characters lies: counted from this place, where it is near.
+    #[inline(always)]
     pub(crate) fn offset_of_cursor<T: UnitText>(self, asked: &Session<'_, T>, unit: Unit) -> u32
         requires { IsKnown unit asked.now.state.text self }
         ensures { result ≡ offset_of unit asked.now.state.text asked.now.state.cursor }
