@@ -149,7 +149,9 @@ impl Table {
                 steps,
             );
         }
-        search(
+        // Bound, so that what the short search finds can stay in registers:
+        // else both searches write to one result in memory.
+        let found = search(
             &self.parts,
             &self.blocks,
             &self.moves,
@@ -157,6 +159,7 @@ impl Table {
             s,
             &mut marks.places,
             steps,
-        )
+        );
+        found
     }
 }
