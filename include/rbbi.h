@@ -288,7 +288,8 @@ int rbbi_session_boundaries_before(rbbi_session *session, uint32_t from, uint32_
                                    size_t *count, uint32_t *resume);
 
 /* Where the segment that holds the character after `at` begins and ends, and the largest status of
-   its end. If `at` is inside a character, that is the one meant. RBBI_DONE if `at` is at the end of the text or past it. The cursor stays where it is. */
+   its end. If `at` is inside a character, that is the one meant. RBBI_DONE if `at` is at the end of
+   the text or past it. The cursor stays where it is. */
 int rbbi_session_segment(rbbi_session *session, uint32_t at, uint32_t *from, uint32_t *to,
                          uint32_t *status);
 
