@@ -509,7 +509,7 @@ def least_difference(few, many):
 
 
 def beside_call(bench, line, call, size, seconds):
-    """Puts into a line the seconds of a call over the prose, and those of ICU's in a script."""
+    """Gives a line the seconds of a call over the prose, and those of ICU's in a script."""
     seconds = max(seconds, 1e-9)
     line.time = time_text(seconds)
     if bench.icu:
