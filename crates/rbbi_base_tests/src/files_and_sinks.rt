@@ -226,8 +226,8 @@ const WRITERS_AS_SINKS: [(&[Option<usize>], ErrorKind, &str, &[u8]); 4] = [
     (&[None, Some(1)], ErrorKind::OutOfMemory, "Memory", b"a"),
 ];
 
-/// In pieces to the end; an interrupted write is tried again; one that takes nothing is a fault, and
-/// so is one that fails, but not one that has no memory.
+/// In pieces to the end; an interrupted write is tried again; one that takes nothing is a fault,
+/// and so is one that fails, but not one that has no memory.
 #[test]
 fn writers_as_sinks(rt: HostRuntime) {
     for row in &WRITERS_AS_SINKS {

@@ -330,8 +330,8 @@ fn are_inside<T: UnitText>(text: &T) -> bool {
     true
 }
 
-/// A U+FEFF, a letter with a combining mark, a lone CR, a character past U+FFFF and a letter. Places
-/// are right whichever units the text is ready for.
+/// A U+FEFF, a letter with a combining mark, a lone CR, a character past U+FFFF and a letter.
+/// Places are right whichever units the text is ready for.
 #[test]
 fn places_in_units(rt: HostRuntime) {
     let text = "\u{feff}e\u{301}\r\u{1d11e}b";

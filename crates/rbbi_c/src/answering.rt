@@ -60,8 +60,8 @@ fn ask_counted<L: Ledger>(
     code
 }
 
-/// Asks the session that a handle holds. It takes no memory. Each export has a copy of this in which
-/// the question is known.
+/// Asks the session that a handle holds. It takes no memory. Each export has a copy of this in
+/// which the question is known.
 #[inline(always)]
 pub(crate) fn ask_through(memory: Memory, session: &mut Handle, asked: Ask, number: &mut u32) -> u32
     ensures { AnswersThrough session.old.held (question_of asked) result number.old number.new

@@ -1,4 +1,5 @@
-//! What C calls to turn a session into one through a filter. `include/rbbi.h` documents these calls.
+//! What C calls to turn a session into one through a filter. `include/rbbi.h` documents these
+//! calls.
 ghost use Rattle.std.specs.Prelude.{◌≡◌, ◌≤◌, length, None, Some, MatchOption, MatchResult};
 ghost use Rattle.rbbi_text.specs.Bytes.{most_bytes};
 ghost use Rattle.rbbi_c.specs.Faults.{told};

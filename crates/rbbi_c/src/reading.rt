@@ -78,8 +78,8 @@ impl Desk {
         segment
     }
 
-    /// The characters between two numbers, in UTF-8, or the code of the refusal. The session stays as
-    /// it is.
+    /// The characters between two numbers, in UTF-8, or the code of the refusal. The session stays
+    /// as it is.
     pub(crate) fn part<L: Ledger>(
         &mut self,
         alloc: Global,

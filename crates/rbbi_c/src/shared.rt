@@ -6,7 +6,8 @@ use std::alloc::{AllocError, Global};
 use std::marker::Model;
 use std::sync::Arc;
 
-/// A table with the count of its owners, which are handles, sessions and tallies. The last one frees it.
+/// A table with the count of its owners, which are handles, sessions and tallies. The last one
+/// frees it.
 #[derive(Drop)]
 pub struct SharedTable {
     counted: Arc<Table>,

@@ -117,8 +117,8 @@ fn first_try<T: Chars, L: Ledger>(
     First { anchor, found }
 }
 
-/// As `search_from`, from the near anchor, over what was read back. If it can, it begins at the wide
-/// one and finds more.
+/// As `search_from`, from the near anchor, over what was read back. If it can, it begins at the
+/// wide one and finds more.
 fn search_read<T: Chars, L: Ledger>(
     table: &ShortTable<'_>,
     text: &T,

@@ -13,8 +13,8 @@ use rbbi_text::{Chars, Steps};
 use std::sync::ledger::Ledger;
 
 /// Fills the run from one of the two anchors up to the first boundary that isn't before `i`. Only
-/// characters past those that were read back are read. It gives up (false), with nothing read, where
-/// a search from a place before the near anchor would have to read.
+/// characters past those that were read back are read. It gives up (false), with nothing read,
+/// where a search from a place before the near anchor would have to read.
 pub(crate) fn fill_from<T: Chars, L: Ledger>(
     table: &ShortTable<'_>,
     text: &T,

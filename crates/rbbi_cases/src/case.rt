@@ -7,8 +7,8 @@ use rbbi_segment::Sizes;
 use rbbi_text::{append, decimal};
 use std::alloc::Global;
 
-/// A case: the line of its name, from 1, its name, what is run over files and outputs in memory, and
-/// what is wanted of that.
+/// A case: the line of its name, from 1, its name, what is run over files and outputs in memory,
+/// and what is wanted of that.
 #[derive(Drop)]
 pub(crate) struct Case {
     pub(crate) alloc: Global,

@@ -1,6 +1,7 @@
-//! Runs the case files that its arguments name: in each case the top call over files and an output in
-//! memory. It prints what differs, each time with the file, the line and the name of the case, and
-//! how many cases passed and failed. A case file that isn't of the form is refused with its line.
+//! Runs the case files that its arguments name: in each case the top call over files and an output
+//! in memory. It prints what differs, each time with the file, the line and the name of the case,
+//! and how many cases passed and failed. A case file that isn't of the form is refused with its
+//! line.
 #![tactic(auto)]
 
 mod case;

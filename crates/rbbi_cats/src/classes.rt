@@ -19,8 +19,8 @@ pub const MOST_CATEGORIES: usize = 1000;
 
 /// The category of each class of a division by some rows of its classes, and the number of
 /// categories: 0 for the classes that no row has and for those of surrogates, and one for all
-/// classes that no row distinguishes, numbered by their first class. It refuses as soon as there are
-/// too many, since further rows take none away.
+/// classes that no row distinguishes, numbered by their first class. It refuses as soon as there
+/// are too many, since further rows take none away.
 pub(crate) fn categories_of(
     alloc: Global,
     division: &Division,

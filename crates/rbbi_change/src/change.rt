@@ -40,9 +40,9 @@ pub struct Change {
 /// the old ones. Where nothing else changed, it is what was removed and what was inserted.
 ///
 /// It goes back from the edit to a safe pair at which every search from before stops, searches both
-/// texts from there, and stops where a boundary after the edit is an old one, moved. On the way back
-/// it reads a character for each place, and one more; after that it reads what the searches of both
-/// texts read. It takes no memory.
+/// texts from there, and stops where a boundary after the edit is an old one, moved. On the way
+/// back it reads a character for each place, and one more; after that it reads what the searches of
+/// both texts read. It takes no memory.
 pub fn changed<S: Chars, T: Chars, L: Ledger>(
     table: &Table,
     old: &S,

@@ -6,7 +6,8 @@ use rbbi_model::marks_are_unique;
 
 /// A least table for the rules has more rows than a number from 2 on exactly where the rules
 /// distinguish so many words that each lead somewhere. So `build` refuses `TooManyRows` exactly if
-/// the least table has more than 4,095 rows. Valid tables have what the law asks of a table's parts.
+/// the least table has more than 4,095 rows. Valid tables have what the law asks of a table's
+/// parts.
 pub fn rows_are_needed()
     ensures needed { RowsAreNeeded }
     ensures valid { ValidTablesHaveRows }

@@ -19,8 +19,8 @@ fn positions_in(rt: &impl Abort, alloc: Global, text: &str) -> (Positions, u16)
     (found, cats.count())
 }
 
-/// What follows the marks of a leaf: `^` if it is first, `$` if it is last, `/` if it is last of the
-/// front, then `:`.
+/// What follows the marks of a leaf: `^` if it is first, `$` if it is last, `/` if it is last of
+/// the front, then `:`.
 fn after_marks<'a>(form: &'a [u8], found: &Positions, leaf: u32) -> Option<&'a [u8]>
     requires { leaf < found.now.leaves }
 {

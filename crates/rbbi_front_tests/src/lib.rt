@@ -1,5 +1,5 @@
-//! Tests of the way from a rule file to positions, and of the properties that are built in, by public
-//! calls: nothing but tests.
+//! Tests of the way from a rule file to positions, and of the properties that are built in, by
+//! public calls: nothing but tests.
 //!
 //! A crate with tests of its own is proved twice, so those of these crates stand here.
 #![tactic(auto)]

@@ -136,8 +136,9 @@ impl<'a, T: UnitText> UnitSession<'a, T> {
         index
     }
 
-    /// That each kept run is true of the text as it is now. Callers' proofs don't see what a session
-    /// keeps to itself, and this call shows it to them at any moment; it does nothing when it runs.
+    /// That each kept run is true of the text as it is now. Callers' proofs don't see what a
+    /// session keeps to itself, and this call shows it to them at any moment; it does nothing when
+    /// it runs.
     pub fn runs_are_true(&self)
         ensures { HasTrueRuns self.now.asked }
     {

@@ -24,8 +24,8 @@ pub(crate) struct Opened {
     pub(crate) marks: FrontPlaces,
 }
 
-/// Searches from a boundary on, until a piece is filled or the text ends. It gives the piece and the
-/// boundary after it.
+/// Searches from a boundary on, until a piece is filled or the text ends. It gives the piece and
+/// the boundary after it.
 fn fill<T: Chars, L: Ledger>(
     alloc: Global,
     table: &Table,

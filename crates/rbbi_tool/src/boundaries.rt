@@ -149,8 +149,8 @@ fn put_mapped_boundaries<T: Chars, G: CharMap, K: Sink, L: Ledger>(
     put_searched_boundaries(alloc, table, &turned, filter, out, steps)
 }
 
-/// Writes the lines of all boundaries of a text by a table that are reported, in a unit or through a
-/// filter, in pieces.
+/// Writes the lines of all boundaries of a text by a table that are reported, in a unit or through
+/// a filter, in pieces.
 fn put_boundaries_of<T: FlatText, K: Sink, L: Ledger>(
     alloc: Global,
     table: &Table,

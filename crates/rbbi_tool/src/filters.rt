@@ -68,8 +68,8 @@ fn filter_of<L: Ledger>(
 }
 
 /// The filter that the options name, if they name one, and the table that boundaries come by. The
-/// fault is the first of the property files, of the filter file, of the rules or the table file, and
-/// of the rules' table.
+/// fault is the first of the property files, of the filter file, of the rules or the table file,
+/// and of the rules' table.
 pub(crate) fn filtered_from<L: Ledger>(
     alloc: Global,
     options: &Options,

@@ -89,12 +89,12 @@ fn told(alloc: Global, ended: Result<Prepared, Refusal>) -> Result<Prepared, All
 /// | 8 | memory ran out | a prefix of what was to be written |
 ///
 /// The arguments are checked first, then the files are read in their order; then come the property
-/// files, then a filter file, then the rule file or the table file, for `same` the second rule file,
-/// then the text, and then the script or the tests. A file that the command writes is written before
-/// any output, so where that fails, there is no output. The lines of `breaks`, `run` and `tally` are
-/// written while they are made, as soon as 65,536 bytes or more wait.
-/// No call on the files comes after a read or a write that is refused. That none on the sink comes
-/// after a write or a put that is refused is tested.
+/// files, then a filter file, then the rule file or the table file, for `same` the second rule
+/// file, then the text, and then the script or the tests. A file that the command writes is written
+/// before any output, so where that fails, there is no output. The lines of `breaks`, `run` and
+/// `tally` are written while they are made, as soon as 65,536 bytes or more wait. No call on the
+/// files comes after a read or a write that is refused. That none on the sink comes after a write
+/// or a put that is refused is tested.
 pub fn rbbi<F: Files, K: Sink, L: Ledger>(
     alloc: Global,
     words: &Vec<String>,

@@ -22,9 +22,9 @@ use rbbi_text::Steps;
 use std::alloc::Global;
 use std::sync::ledger::Ledger;
 
-/// The table of the bytes of a rule file, with property files that were read. Where `ignored` holds,
-/// `$dictionary` is a variable like others. Its fault is the first of its bytes, its tokens, its
-/// grammar, its meaning, the number of its categories, and the size of its table.
+/// The table of the bytes of a rule file, with property files that were read. Where `ignored`
+/// holds, `$dictionary` is a variable like others. Its fault is the first of its bytes, its tokens,
+/// its grammar, its meaning, the number of its categories, and the size of its table.
 pub(crate) fn table_of_rules(
     alloc: Global,
     bytes: &[u8],

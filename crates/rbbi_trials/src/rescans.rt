@@ -112,8 +112,8 @@ impl<'a> Rescans<'a> {
         }
     }
 
-    /// All boundaries of the text as it is, with each letter as the second of the pair whose first it
-    /// is.
+    /// All boundaries of the text as it is, with each letter as the second of the pair whose first
+    /// it is.
     pub(crate) fn boundaries<L: Ledger>(
         &self,
         rt: &impl Abort,

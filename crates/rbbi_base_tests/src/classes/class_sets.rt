@@ -44,7 +44,8 @@ const OTHERS: Pairs = &[
 /// All but the others.
 const IN_SETS: Pairs = &[(0x30, 0x39), (0x41, 0x5A), (0x61, 0x7A), (0xD800, 0xDFFF)];
 
-/// The sets of a division, two ends of a range, and the code points of the classes that begin in it.
+/// The sets of a division, two ends of a range, and the code points of the classes that begin in
+/// it.
 type Span = (&'static [Pairs], u32, u32, Pairs);
 
 const SPANS: [Span; 19] = [
