@@ -56,8 +56,8 @@ impl<T: EditText> Session<'_, T> {
     }
 
     /// Goes to a boundary before `o` from which the boundaries up to `o` can be gone through at
-    /// what is left of the cost of `preceding`: the first one that is found from the last anchor that
-    /// `preceding` may search from. It goes to 0 only where no other boundary lies before `o`.
+    /// what is left of the cost of `preceding`: the first one that is found from the last anchor
+    /// that `preceding` may search from. It goes to 0 only where no other boundary lies before `o`.
     pub fn begin_stretch<L: Ledger>(&mut self, o: u32, steps: &mut Steps<L>) -> u32
         requires some { 0 < o }
         requires within { o ≤ length self.old.state.text }

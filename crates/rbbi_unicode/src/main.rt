@@ -4,9 +4,9 @@
 //! - With no arguments: a line for each file, its name and from how many runs of code points it is
 //!   made.
 //! - With the name of a file: that file.
-//! - With `grapheme`, `word`, `sentence` or `line`, and the path of a text: a line for each segment,
-//!   the byte where it starts. With `line` a line that must be broken there says so by a second
-//!   number, 100.
+//! - With `grapheme`, `word`, `sentence` or `line`, and the path of a text: a line for each
+//!   segment, the byte where it starts. With `line` a line that must be broken there says so by a
+//!   second number, 100.
 #![tactic(auto)]
 
 mod files;
