@@ -1,7 +1,7 @@
 use Rattle.std.proofs.Common.{◌≡◌, ◌+◌}
 use Rattle.rbbi_file.specs.Lengths.{rows_size}
 use Rattle.rbbi_file.specs.inner.Reading.{AreRowsAt}
-use Rattle.rbbi_file.proofs.parts.rows_at.Given as goal
+use Rattle.rbbi_file.proofs.parts.add_rows.Given as goal
 
 abbrev pub invariant-loop-row : goal.invariant-loop-row
 invariant-loop-row l =

@@ -1,7 +1,7 @@
 use Rattle.std.proofs.Common.{◌-◌}
+use Rattle.rbbi_dfa.specs.inner.Determinizing.{IsLed}
 use Rattle.rbbi_dfa.specs.inner.LastWords.{AreKept}
-use Rattle.rbbi_dfa.proofs.Cells.{IsLed}
-use Rattle.rbbi_dfa.proofs.determinize.lead_all.Given as goal
+use Rattle.rbbi_dfa.proofs.determinize.lead_sets.Given as goal
 
 abbrev pub invariant-loop-i : goal.invariant-loop-i
 invariant-loop-i l = record {

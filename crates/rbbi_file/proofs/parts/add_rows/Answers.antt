@@ -1,7 +1,7 @@
 use Rattle.std.proofs.Common.{◌+◌, sym, subst, arith}
 use Rattle.rbbi_file.specs.inner.Reading.{AreRowsAt}
 use Rattle.rbbi_file.proofs.Stands.{rows_more}
-use Rattle.rbbi_file.proofs.parts.rows_at.Goals as goal
+use Rattle.rbbi_file.proofs.parts.add_rows.Goals as goal
 
 pub loop-row-preserved : goal.loop-row-preserved
 loop-row-preserved c = (
