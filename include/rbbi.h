@@ -25,7 +25,8 @@
  * calls need their handles to themselves: one thread at a time uses a session, a tally or a list
  * of property files, and no thread uses a handle while another opens or closes it. Sessions and
  * tallies of one table may be used side by side. Handles may move from thread to thread, under a
- * lock or when a thread starts or ends.
+ * lock or when a thread starts or ends. A process may fork while other threads take turns: in the
+ * child a table's handle is as usable as before.
  *
  * UNITS. All places and lengths of a session or a tally count the unit that it was opened in:
  * bytes of UTF-8, 16-bit units of UTF-16, or characters (code points). They begin at 0. A text has
