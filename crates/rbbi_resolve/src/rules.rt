@@ -13,6 +13,9 @@ use std::marker::Model;
 use std::rc::Rc;
 
 /// What a rule matches, with its variables replaced.
+///
+/// A tree is at most as high as its rule, so it has at most 257 levels, and a walk over it opens no
+/// more.
 #[derive(Debug, Drop)]
 #[cycle(tree)]
 pub enum Tree {

@@ -24,8 +24,9 @@ pub(crate) struct Summary {
 /// What a variable stands for.
 #[derive(Debug, Drop)]
 pub(crate) enum Kind {
-    /// A set; None if it has no value, since a variable or a part in it is faulty.
-    Set(Option<ClassSet>),
+    /// A set: its value, None where a variable or a part in it is faulty; and the number of the
+    /// statement that writes it, where the others of a chain of names say the next name alone.
+    Set(Option<ClassSet>, usize),
     /// An expression that is no set.
     Expression(Summary),
 }

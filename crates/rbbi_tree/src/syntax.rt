@@ -1,4 +1,5 @@
-//! The syntax trees of a rule file.
+//! The syntax trees of a rule file. At most 64 brackets are open at once, so at most 65 expressions
+//! or sets stand in one another.
 ghost use Rattle.std.specs.Prelude.{◌≡◌, ◌<◌, length, slice_get};
 
 use rbbi_text::Word;
