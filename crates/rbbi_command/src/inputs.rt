@@ -13,14 +13,14 @@ use rbbi_text::Raw;
 use std::alloc::{AllocError, Global};
 
 /// A file whose faults are reported under its name.
-#[derive(Debug, Drop)]
+#[derive(Drop)]
 pub struct Input {
     pub name: Name,
     pub bytes: Raw,
 }
 
 /// What was read, by what it is to the program. A file that a request doesn't name is empty.
-#[derive(Debug, Drop)]
+#[derive(Drop)]
 pub struct Inputs {
     /// The property files, in order.
     pub properties: Vec<Raw>,

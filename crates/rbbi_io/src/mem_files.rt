@@ -20,7 +20,7 @@ use std::marker::Model;
 /// and so does a read of a name that is not there. The names of failed reads and of failed writes
 /// are kept; a failing call that finds no room for its name answers `Memory`. Of a name that is
 /// not there they say what the system says, and of `.` that it is a folder.
-#[derive(Debug, Drop)]
+#[derive(Drop)]
 pub struct MemFiles {
     alloc: Global,
     files: Vec<MemFile>,
