@@ -10,7 +10,7 @@ use rbbi_text::{Pieces, Steps};
 use std::sync::ledger::Ledger;
 
 /// A question to a session.
-#[derive(Clone, Copy, Debug)]
+#[derive(Clone, Copy)]
 pub(crate) enum Ask {
     First,
     Last,
@@ -24,7 +24,7 @@ pub(crate) enum Ask {
 }
 
 /// What is reported of a reply: a number, or that there is no such boundary.
-#[derive(Clone, Copy, Debug)]
+#[derive(Clone, Copy)]
 pub(crate) enum Told {
     Number(u32),
     Done,

@@ -17,7 +17,7 @@ use rbbi_text::{Chars, Near, Pieces, Steps, Unit, UnitText};
 use std::sync::ledger::Ledger;
 
 /// A boundary.
-#[derive(Clone, Copy, Debug)]
+#[derive(Clone, Copy)]
 pub(crate) struct Bound {
     /// Its place, in characters from 0.
     pub(crate) at: u32,

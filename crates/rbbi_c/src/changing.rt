@@ -21,7 +21,7 @@ use std::sync::ledger::{Blank, Ledger};
 
 /// What an edit changed, in the session's unit: a range of the old and of the new text.
 #[repr(C)]
-#[derive(Clone, Copy, Debug)]
+#[derive(Clone, Copy)]
 pub struct Changed {
     /// Where it begins, in both texts.
     pub from: u32,

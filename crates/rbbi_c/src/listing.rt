@@ -21,7 +21,7 @@ use rbbi_text::{Chars, Pieces, Steps, Unit, UnitText};
 use std::sync::ledger::Ledger;
 
 /// What was listed.
-#[derive(Clone, Copy, Debug)]
+#[derive(Clone, Copy)]
 pub struct Listing {
     /// How many boundaries were written.
     pub count: usize,

@@ -14,7 +14,7 @@ use std::sync::ledger::Ledger;
 
 /// A segment: what lies between two neighbouring boundaries.
 #[repr(C)]
-#[derive(Clone, Copy, Debug)]
+#[derive(Clone, Copy)]
 pub struct Segment {
     /// Where it begins.
     pub from: u32,

@@ -15,7 +15,7 @@ pub const MOST_ENTRIES: usize = 256;
 const KEPT_ENTRIES: usize = 128;
 
 /// What a run has, with room for all the entries that it may get, of which the first ones are its.
-#[derive(Debug, Drop)]
+#[derive(Drop)]
 struct Body {
     anchor: u32,
     leads: bool,
@@ -25,7 +25,7 @@ struct Body {
 
 /// Consecutive boundaries that were found from one anchor. What it has stands in a box that is made
 /// once, so that runs change places fast.
-#[derive(Debug, Drop)]
+#[derive(Drop)]
 pub struct Run {
     body: Box<Body>,
 }

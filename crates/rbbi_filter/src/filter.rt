@@ -11,7 +11,7 @@ use rbbi_text::{Chars, Steps};
 use std::sync::ledger::Ledger;
 
 /// What stands between a text and its boundaries as they are reported.
-#[derive(Debug, Drop)]
+#[derive(Drop)]
 pub enum Filter {
     /// Abbreviations, after which no boundary is reported.
     Suppressing(Abbreviations),

@@ -8,7 +8,7 @@ use rbbi_text::{Unit, UnitText};
 
 /// A place of a text whose offset is known. Offsets near it are found from it, and not from the
 /// text's start.
-#[derive(Clone, Copy, Debug)]
+#[derive(Clone, Copy)]
 pub struct Known {
     /// The place, in characters from 0.
     pub at: u32,

@@ -20,7 +20,7 @@ use std::marker::Model;
 ///
 /// Beside the parts it keeps the categories of all code points in blocks, and the rows in one flat
 /// list for the loop of a search: a short one if the table has no look-ahead rules and isn't large.
-#[derive(Debug, Drop)]
+#[derive(Drop)]
 pub struct Table {
     pub(crate) parts: Parts,
     pub(crate) blocks: Blocks,

@@ -4,21 +4,21 @@ use Rattle.rbbi_command.proofs.Reading.{none_read, some_reads_made, reading_ends
 use Rattle.rbbi_command.proofs.Reading.{one_read_more, stops_at, stops_without, all_reads}
 use Rattle.rbbi_command.specs.Reads as made
 use Rattle.rbbi_command.specs.Inputs.{inputs_in}
-use Rattle.rbbi_command.proofs.inputs.read_all.Goals as goal
+use Rattle.rbbi_command.proofs.inputs.read_into.Goals as goal
 
 pub loop-source-init : goal.loop-source-init
 loop-source-init g c =
     record {
       told =
           none_read c.args.sources.now (g.F.Files.contents c.args.files.now) (g.F.Files.failed_reads c.args.files.now)
-          (g.F.Files.failed_writes c.args.files.now) (inputs_in c.in_ok-inputs.inputs) (g.met.F.Files.reads_fit c.args.files.now)
-          c.in_ok-inputs.ensures;
+          (g.F.Files.failed_writes c.args.files.now) (inputs_in c.args.inputs.now) (g.met.F.Files.reads_fit c.args.files.now)
+          c.requires;
       reads = made.NoRead;
     }
 
 pub returns-in_err-bytes-clause-refused : goal.returns-in_err-bytes-clause-refused
 returns-in_err-bytes-clause-refused g c =
-    let p = err_from_is_err_and c.from_residual-in_err-bytes.result c.from_residual-in_err-bytes.ensures.1 in
+    let p = err_from_is_err_and c.from_residual.result c.from_residual.ensures.1 in
     let refused = c.in_err-bytes.ensures in
     rw (p.1, p.2) (reading_ends c.loop-source.invariant.told c.source-item.result c.loop-source-test.true c.source-item.is
     (g.F.Files.failed_reads c.read_one.new.files) c.in_err-bytes.field-0.0 refused.reads refused.others refused.refused)
@@ -54,14 +54,9 @@ returns-clause-short g c = c.loop-source.invariant.told.short
 pub returns-clause-order : goal.returns-clause-order
 returns-clause-order g c = all_in_order c.loop-source.invariant.told c.loop-source-test.false
 
-pub returns-in_err-inputs-clause-calls : goal.returns-in_err-inputs-clause-calls
-returns-in_err-inputs-clause-calls g c =
-    let p = err_from_is_err_and c.from_residual.result c.from_residual.ensures.1 in
-    rw (p.1, p.2) (stops_without _ _ _ _ 0 made.NoRead)
-
 pub returns-in_err-bytes-clause-calls : goal.returns-in_err-bytes-clause-calls
 returns-in_err-bytes-clause-calls g c =
-    let p = err_from_is_err_and c.from_residual-in_err-bytes.result c.from_residual-in_err-bytes.ensures.1 in
+    let p = err_from_is_err_and c.from_residual.result c.from_residual.ensures.1 in
     rw (p.1, p.2) (stops_at _ _ _ _ _ _ c.source-item.result c.loop-source.invariant.reads c.loop-source-test.true c.source-item.is
     c.in_err-bytes.field-0.0 c.in_err-bytes.ensures.once)
 

@@ -1,7 +1,7 @@
 use Rattle.rbbi_command.specs.Inputs.{inputs_in}
 use Rattle.rbbi_command.specs.Reads.{AreReads}
 use Rattle.rbbi_command.proofs.Reading.{ReadsSoFar}
-use Rattle.rbbi_command.proofs.inputs.read_all.Given as goal
+use Rattle.rbbi_command.proofs.inputs.read_into.Given as goal
 
 -- the files before this one were read, in order, and none of the reads was refused
 abbrev pub invariant-loop-source : goal.invariant-loop-source
