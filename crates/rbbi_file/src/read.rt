@@ -154,7 +154,7 @@ pub fn read_table(alloc: Global, bytes: &[u8]) -> Result<Table, FileErr>
     if !has_tables(bytes[7], &parts) {
         return Err(FileErr::Part(TableErr::BadRanges));
     }
-    match Table::from_parts(alloc, parts) {
+    match Table::from_parts(alloc, &parts) {
         Ok(table) => Ok(table),
         Err(error) => match error {
             TableErr::Memory => Err(FileErr::Memory),

@@ -1,5 +1,8 @@
 //! The parts of a table.
-use crate::{ByteList, CellList, NumberLists, RangeList, RowList};
+ghost use Rattle.std.specs.Prelude.{◌≡◌, IfOk};
+
+use crate::{ByteList, CellList, NumberList, NumberLists, RangeList, RowList};
+use std::alloc::{AllocError, Global};
 use std::marker::Model;
 
 /// A range of code points of one category. It reaches to the code point before the next range's
@@ -72,4 +75,22 @@ pub struct Parts {
     /// A bit for each pair of categories: the pair of `first` and `second` has the bit with the
     /// number `first * categories + second`, eight a byte, the one of least value first.
     pub safe: ByteList,
+}
+/// A copy of the parts.
+pub(crate) fn copied(alloc: Global, parts: &Parts) -> Result<Parts, AllocError>
+    ensures { IfOk result (λ copy. copy ≡ parts.now) }
+{
+    let mut lists = Vec::with_capacity(alloc, parts.lists.len())?;
+    for list in parts.lists.as_slice() {
+        lists.push(NumberList::from_vec(list.as_slice().to_vec(alloc)?))?;
+    }
+    Ok(Parts {
+        categories: parts.categories,
+        slashes: parts.slashes,
+        ranges: RangeList::from_vec(parts.ranges.as_slice().to_vec(alloc)?),
+        lists: NumberLists::from_vec(lists),
+        rows: RowList::from_vec(parts.rows.as_slice().to_vec(alloc)?),
+        cells: CellList::from_vec(parts.cells.as_slice().to_vec(alloc)?),
+        safe: ByteList::from_vec(parts.safe.as_slice().to_vec(alloc)?),
+    })
 }

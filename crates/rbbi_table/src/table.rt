@@ -11,6 +11,7 @@ ghost use Rattle.rbbi_table.specs.Answers.{MakesTable};
 use crate::bits::has_stored;
 use crate::checks::check_parts;
 use crate::kept::{Kept, kept_beside};
+use crate::parts::copied;
 use crate::short::Short;
 use crate::{Blocks, Parts, RangeRow, RowHead, TableErr};
 use std::alloc::{AllocError, Global};
@@ -44,17 +45,18 @@ impl Model for Table {
 }
 
 impl Table {
-    /// The table of these parts, which may come from outside.
+    /// The table of these parts, which may come from outside. They are copied.
     ///
     /// Refuses `BadRanges`, `BadLists`, `BadRows`, `BadFronts` or `BadSafe` if that part is the
     /// first that isn't valid. The checks of fronts and safe pairs go over rows and categories,
     /// never over ways through the table.
-    pub fn from_parts(alloc: Global, parts: Parts) -> Result<Table, TableErr>
-        requires { HasFittingParts (table_of parts) }
-        ensures { MakesTable (table_of parts) result }
+    pub fn from_parts(alloc: Global, parts: &Parts) -> Result<Table, TableErr>
+        requires { HasFittingParts (table_of parts.now) }
+        ensures { MakesTable (table_of parts.now) result }
     {
-        check_parts(alloc, &parts)?;
-        Ok(Table::from_valid(alloc, parts)?)
+        check_parts(alloc, parts)?;
+        let copy = copied(alloc, parts)?;
+        Ok(Table::from_valid(alloc, copy)?)
     }
 
     /// The table of these parts, which are valid: nothing is checked or copied. Fails only if

@@ -81,5 +81,5 @@ pub(crate) fn table_of(rt: &impl Abort, alloc: Global, sample: &Sample) -> Resul
     let cells = u64::from(parts.rows.len() as u32) * u64::from(parts.categories);
     assert!(rt; parts.cells.len() as u64 == cells);
     assert!(rt; parts.safe.len() == (width * width + 7) / 8);
-    Table::from_parts(alloc, parts)
+    Table::from_parts(alloc, &parts)
 }
