@@ -179,7 +179,10 @@ class Table(_Closing):
 
     @classmethod
     def named(cls, name: str) -> Table:
-        """A table that is in the library: `grapheme`, `word`, `sentence` or `line`."""
+        """A table that is in the library: `grapheme`, `word`, `sentence` or `line`.
+
+        The first three are by UAX #29 of Unicode 18.0, the last by UAX #14 of 17.0 over data of 18.0.
+        """
         if '\0' in name:  # where the name would end for C
             raise Error(Answer.NAME)
         table = cls()

@@ -102,7 +102,8 @@ impl Table {
         Ok(table)
     }
 
-    /// A table that is in the library: `grapheme`, `word`, `sentence` or `line`.
+    /// A table that is in the library: `grapheme`, `word` or `sentence` by UAX #29 of Unicode 18.0, or
+    /// `line` by the rules of UAX #14 of 17.0 over the data of 18.0.
     ///
     /// Refuses `Name` for any other name.
     pub fn named(name: &str) -> Result<Table, Error> {
