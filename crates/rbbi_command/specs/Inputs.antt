@@ -32,14 +32,6 @@ inputs_in inputs = record {
   tests = inputs.tests;
 }
 
--- faults of a file in this role are reported under its name
-abbrev pub IsNamed : Role → Type 0
-IsNamed role.Filter = Unit {0}
-IsNamed role.Text = Unit {0}
-IsNamed role.Script = Unit {0}
-IsNamed role.Tests = Unit {0}
-IsNamed role = ⊥
-
 -- no file is read yet
 abbrev pub no_inputs : Inputs
 no_inputs =

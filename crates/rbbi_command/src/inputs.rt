@@ -3,6 +3,7 @@ ghost use Rattle.std.specs.Prelude.{◌≡◌, [], IfOk, IfErr, IfSome, OnOk};
 ghost use Rattle.rbbi_io.specs.Counts.{EachGoesOn, EachStays};
 ghost use Rattle.rbbi_command.specs.declared.inputs.Input.{Input};
 ghost use Rattle.rbbi_command.specs.Inputs as spec;
+ghost use Rattle.rbbi_command.specs.inner.Inputs.{IsNamed};
 ghost use Rattle.rbbi_command.specs.Reads.{AreRead, EndsReading, MakesSomeReads};
 ghost use Rattle.rbbi_command.specs.Reads.{EndsAtRefusedRead};
 
@@ -79,7 +80,7 @@ impl Inputs {
 
     /// Puts a file whose faults are reported under its name in the place of its role.
     fn put_named(&mut self, role: Role, input: Input)
-        requires { spec.IsNamed role }
+        requires { IsNamed role }
         ensures { spec.inputs_in self.new
             ≡ spec.put role input.name input.bytes (spec.inputs_in self.old) }
     {
