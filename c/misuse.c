@@ -146,6 +146,8 @@ int main(void) {
     IS(count == 6 && memcmp(room, "12\xf0\x9f", 4) == 0, 1);
     IS(rbbi_session_text(&session, 1, 5, room, 4, &count), RBBI_OK);
     IS(count == 4 && memcmp(room, "b 12", 4) == 0, 1);
+    IS(rbbi_session_text(&session, 3, 4, room, 4, &count), RBBI_OK);
+    IS(count == 1 && memcmp(room, "1 12", 4) == 0, 1);
 
     /* UTF-16 */
     const uint16_t pair[] = {'x', 0xd83d, 0xde00, 'y'}, low[] = {'x', 0xdc00}, high[] = {0xd83d, 'y'};

@@ -33,10 +33,11 @@
  *
  * ANSWERS. Each call but the close calls returns an int: RBBI_OK, RBBI_DONE, or an error. An error
  * leaves every handle and every number as it was, with three exceptions: RBBI_FAULT writes the
- * fault, RBBI_LONE the number of the surrogate, and RBBI_ROOM the length and as much as fits. No
- * call ends the process, writes or reads a file, or waits, but for the turns above. Opening,
- * filters, forking, editing, compiling, loading, writing, rbbi_session_text and rbbi_tally_each allocate
- * memory. Other questions don't; that isn't proved, but seen by reading the code.
+ * fault, RBBI_LONE the number of the surrogate, and RBBI_ROOM the length and as much as fits. Room
+ * past what is written stays as it was. No call ends the process, writes or reads a file, or waits,
+ * but for the turns above. Opening, filters, forking, editing, compiling, loading, writing,
+ * rbbi_session_text and rbbi_tally_each allocate memory. Other questions don't; that isn't proved,
+ * but seen by reading the code.
  */
 #ifndef RBBI_H
 #define RBBI_H
