@@ -4,7 +4,7 @@ use Rattle.std.proofs.Common.{◌++◌, map, length, get_or, drop, slice_get, fi
 use Rattle.std.proofs.lemmas.Bool.Decides.{nat_tests}
 use Rattle.std.specs.Option.{option_map, option_map_or}
 use Rattle.rbbi_props.specs.Rows.{File}
-use Rattle.rbbi_tree.specs.Trees.{ExprTree, SeqTree, ItemTree, StatementTree, nothing, control, assign, rule, placed, expr_of, seq_of}
+use Rattle.rbbi_tree.specs.Trees.{ExprTree, SeqTree, ItemTree, StatementTree, nothing, control, assign, rule, expr_of, seq_of}
 use Rattle.rbbi_tree.specs.Values.{seq_tree, item_tree, atom_tree, item_tree_out}
 use Rattle.rbbi_tree.specs.declared.syntax.Seq.{Seq}
 use Rattle.rbbi_tree.specs.declared.syntax.Item.{Item}
