@@ -14,7 +14,7 @@ use std::marker::Model;
 pub const MOST_ENTRIES: usize = 256;
 
 /// What a run has, with room for all the entries that it may get, of which the first ones are its.
-#[derive(Debug, Drop)]
+#[derive(Drop)]
 pub(crate) struct Body {
     pub(crate) anchor: u32,
     pub(crate) leads: bool,
@@ -23,7 +23,7 @@ pub(crate) struct Body {
 }
 
 /// What a run has, in a box.
-#[derive(Debug, Drop)]
+#[derive(Drop)]
 pub(crate) struct Boxed {
     body: Box<Body>,
 }
