@@ -153,6 +153,8 @@ int main(void) {
     IS(count == 6 && memcmp(room, "12\xf0\x9f", 4) == 0, 1);
     IS(rbbi_session_text(&session, 1, 5, room, 4, &count), RBBI_OK);
     IS(count == 4 && memcmp(room, "b 12", 4) == 0, 1);
+    IS(rbbi_session_text(&session, 3, 4, room, 4, &count), RBBI_OK);
+    IS(count == 1 && memcmp(room, "1 12", 4) == 0, 1);
 
     /* UTF-16 */
     const uint16_t pair[] = {'x', 0xd83d, 0xde00, 'y'}, low[] = {'x', 0xdc00}, high[] = {0xd83d, 'y'};
@@ -190,7 +192,9 @@ int main(void) {
     rbbi_session_close(&third);
     IS(rbbi_session_next(&fourth, &told), RBBI_OK);
 
-    /* filters */
+    /* filters, also of files that are as long as they may be, or longer */
+    static char long_list[65537];
+    memset(long_list, '\n', sizeof long_list);
     IS(rbbi_session_suppress((rbbi_session *)&table, "a", 1, NULL), RBBI_HANDLE);
     IS(rbbi_session_suppress(&third, "a", 1, NULL), RBBI_HANDLE);
     IS(rbbi_session_suppress(&fourth, "a\xff", 2, &fault), RBBI_FAULT);
@@ -198,9 +202,12 @@ int main(void) {
     IS(rbbi_session_suppress(&fourth, "a\n b\n", 5, &fault), RBBI_FAULT);
     IS(fault.line == 2 && strcmp(fault.name, "BadLine") == 0, 1);
     IS(rbbi_session_tailor(&fourth, "79;0061", 7, NULL), RBBI_FAULT);
+    IS(rbbi_session_suppress(&fourth, long_list, 65537, &fault), RBBI_TOO_LONG);
+    IS(rbbi_session_tailor(&fourth, long_list, 65537, &fault), RBBI_TOO_LONG);
     IS(rbbi_session_current(&fourth, &told), RBBI_OK);
     IS(told == 1, 1);
-    IS(rbbi_session_suppress(&fourth, "a\n", 2, &fault), RBBI_OK);
+    memcpy(long_list + 65534, "a\n", 2);
+    IS(rbbi_session_suppress(&fourth, long_list, 65536, &fault), RBBI_OK);
     IS(rbbi_session_current(&fourth, &told), RBBI_OK);
     IS(told == 0, 1);
     IS(rbbi_session_tailor(&fourth, "0079;0061", 9, NULL), RBBI_FILTERED);

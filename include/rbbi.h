@@ -34,10 +34,11 @@
  *
  * ANSWERS. Each call but the close calls returns an int: RBBI_OK, RBBI_DONE, or an error. An error
  * leaves every handle and every number as it was, with three exceptions: RBBI_FAULT writes the
- * fault, RBBI_LONE the number of the surrogate, and RBBI_ROOM the length and as much as fits. No
- * call ends the process, writes or reads a file, or waits, but for the turns above. Opening,
- * filters, forking, editing, compiling, loading, writing, rbbi_session_text and rbbi_tally_each allocate
- * memory. Other questions don't; that isn't proved, but seen by reading the code.
+ * fault, RBBI_LONE the number of the surrogate, and RBBI_ROOM the length and as much as fits. Room
+ * past what is written stays as it was. No call ends the process, writes or reads a file, or waits,
+ * but for the turns above. Opening, filters, forking, editing, compiling, loading, writing,
+ * rbbi_session_text and rbbi_tally_each allocate memory. Other questions don't; that isn't proved,
+ * but seen by reading the code.
  */
 #ifndef RBBI_H
 #define RBBI_H
@@ -85,8 +86,8 @@ enum {
     RBBI_OUTSIDE = 5,  /* the edit reaches past the end of the text */
     RBBI_INSIDE = 6,   /* the edit begins or ends inside a character */
     RBBI_TOO_LONG = 7, /* a text would have more than 16,777,216 characters; a text, a table or a
-                          property file has more than 100,663,296 bytes, or a rule file more than
-                          1,048,576 */
+                          property file has more than 100,663,296 bytes, a rule file more than
+                          1,048,576, or a file of a filter more than 65,536 */
     RBBI_NOT_UTF8 = 8, /* the bytes of a text or a name are not UTF-8 */
     RBBI_MEMORY = 9,   /* memory ran out */
     RBBI_ROOM = 10,    /* the buffer is too small; a prefix and the length are written */
@@ -201,7 +202,8 @@ void rbbi_session_close(rbbi_session *session);
    copies no text. The cursor goes to 0. From then on all calls below serve the session but
    rbbi_session_replace_changed, rbbi_session_boundaries, rbbi_session_boundaries_before and
    rbbi_session_segment. Those, rbbi_session_fork and a second filter answer RBBI_FILTERED.
-   RBBI_FAULT: "NotUtf8" with the byte, or "BadLine" with the line. `fault` may be NULL. ---- */
+   RBBI_FAULT: "NotUtf8" with the byte, or "BadLine" with the line. RBBI_TOO_LONG: the file has more
+   than 65,536 bytes. `fault` may be NULL. ---- */
 
 /* From now on a boundary before which an abbreviation stands isn't reported, so that a sentence goes
    on after "Mr.". `list` is a file of abbreviations, one a line (docs/formats.md). */

@@ -5,8 +5,9 @@ use Rattle.std.proofs.Common.{refl, sym, ap, ◌∙◌, subst, ⊎_elim, zero, s
 use Rattle.std.specs.Prelude.{◌&&◌, slice_index}
 use Rattle.std.specs.List.{AllByRecursion}
 use Rattle.std.proofs.lemmas.Bool.{cases_lt, lt-ltb, le-ltb}
-use Rattle.std.proofs.lemmas.List.{map-append, reverse-append, length-set, length-take, length-drop, length-map, length_push, drop_more, take_more, take_all}
+use Rattle.std.proofs.lemmas.List.{map-append, reverse-append, length-set, length-take, length-drop, length-map, length_push, drop_more, drop-set-lt, take_more, take_all}
 use Rattle.std.proofs.lemmas.List.{take_more_set, set_past, take-append-le}
+use Rattle.std.proofs.lemmas.Grind.{drop_more_same}
 use Rattle.rbbi_model.specs.declared.unit.Unit.{Unit as TextUnit}
 use Rattle.rbbi_model.specs.Boundaries.{Boundary}
 use Rattle.rbbi_model.specs.Cover.{places}
@@ -19,7 +20,17 @@ use Rattle.rbbi_c.specs.Ranges.{past_up_to, before_down_to, greatest_statuses, C
 
 -- nothing is copied at first
 pub copied_none : (old : List ℕ) → IsCopied [] old old
-copied_none old = record { same_room = refl; front = sym (take_all (length old) [] (omega arith)) }
+copied_none old = record { same_room = refl; front = sym (take_all (length old) [] (omega arith)); past = refl }
+
+-- what lies past it stays as the next one is written
+past_more : (list old now : List ℕ) (y : ℕ) → drop (length list) now ≡ drop (length list) old
+    → drop (length (list ++ y ∷ [])) (set now (length list) y) ≡ drop (length (list ++ y ∷ [])) old
+past_more list old now y past =
+    let n : ℕ = length list in
+    ap (λ k. drop k (set now n y)) (length_push list y)
+    ∙ drop-set-lt (n + 1) now n y (omega arith)
+    ∙ drop_more_same now old n past
+    ∙ ap (λ k. drop k old) (sym (length_push list y))
 
 -- one number more is copied, or there is no room for it
 pub copied_more : (list old now : List ℕ) (y : ℕ) → IsCopied list old now → IsCopied (list ++ y ∷ []) old (set now (length list) y)
@@ -34,6 +45,7 @@ copied_more list old now y copied =
           ∙ take_more_set now n y room
           ∙ ap (λ l. l ++ y ∷ []) (copied.front ∙ take_all (length old) list (omega (arith, room, copied.same_room)))
           ∙ sym (take_all (length old) (list ++ y ∷ []) (omega (arith, room, copied.same_room, longer)));
+      past = past_more list old now y copied.past;
     })
     (λ full.
     let same : set now n y ≡ now = set_past now n y full in
@@ -45,6 +57,7 @@ copied_more list old now y copied =
           ∙ sym (take_all n now full)
           ∙ copied.front
           ∙ sym (take-append-le (length old) list (y ∷ []) (omega (arith, full, copied.same_room)));
+      past = past_more list old now y copied.past;
     })
     (cases_lt n (length now))
 

@@ -1,12 +1,13 @@
 -- What a call answers that turns the session in a handle into one through a filter.
 use Rattle.std.specs.Prelude.{◌≡◌, ◌≢◌, ℕ, ◌<◌, ◌⊎◌, List, length, Option, Some, Result, Ok, Err, MatchOption}
 use Rattle.rbbi_model.specs.Scripts.{opened}
-use Rattle.rbbi_text.specs.Bytes.{most_bytes}
 use Rattle.rbbi_text.specs.Errors.{lines_err_label}
 use Rattle.rbbi_text.specs.declared.error.LinesErr.{LinesErr}
 use Rattle.rbbi_text.specs.declared.error.LinesErr.TheVariants.{NotUtf8, BadLine, Memory}
 use Rattle.rbbi_command.specs.declared.refusal.Place.{Place}
 use Rattle.rbbi_command.specs.declared.refusal.Place.TheVariants.{Whole, Byte, Row}
+use Rattle.rbbi_command.specs.Files.{limit_of}
+use Rattle.rbbi_command.specs.declared.files.Role.TheVariants as role
 use Rattle.rbbi_command.specs.declared.words.setting.FilterKind.{FilterKind}
 use Rattle.rbbi_command.specs.declared.words.setting.FilterKind.TheVariants.{Abbreviations, Pairs}
 use Rattle.rbbi_session.specs.UnitSessions.{UnitSession}
@@ -47,10 +48,10 @@ pub record TellsFilterFault (kind : FilterKind) (bytes : List ℕ) (before after
 abbrev pub IsFilterRead : FilterKind → List ℕ → Told → Told → Filter → Type 0
 IsFilterRead kind bytes before after filter = ReadsFilter kind bytes (Ok filter) × (after ≡ before)
 
--- Why no filter is read: the bytes are too many; memory ran out; or they are no such file.
+-- Why no filter is read: the bytes are more than `rbbi` takes of such a file; memory ran out; or they are no such file.
 abbrev pub IsNoFilter : FilterKind → List ℕ → Told → Told → ℕ → Type 0
 IsNoFilter kind bytes before after code =
-    ((code ≡ 7) × (most_bytes < length bytes) × (after ≡ before)) ⊎ ((code ≡ 9) × (after ≡ before))
+    ((code ≡ 7) × (limit_of role.Filter < length bytes) × (after ≡ before)) ⊎ ((code ≡ 9) × (after ≡ before))
     ⊎ ((code ≡ 11) × TellsFilterFault kind bytes before after)
 
 -- the session through the filter over the same text, by the same table in the same unit, at the start of the text

@@ -1,11 +1,22 @@
 -- Texts that C has in UTF-16.
-use Rattle.std.specs.Prelude.{◌≡◌, ℕ, ◌+◌, ◌<◌, ◌≤◌, ◌⊎◌, List, length, Option, take, flat_map, slice_index}
+use Rattle.std.specs.Prelude.{◌≡◌, ℕ, ◌+◌, ◌<◌, ◌≤◌, ◌⊎◌, true, List, length, Option, take, flat_map, slice_index, encode_utf8_all}
 use Rattle.core.specs.Char.Escape.{encode_utf16}
-use Rattle.std_alloc.specs.String.{IsUtf16Of}
+use Rattle.core.specs.Str.{all_scalars}
 use Rattle.rbbi_text.specs.Bytes.{most_bytes}
 use Rattle.rbbi_c.specs.Calls.{EditsThrough}
 use Rattle.rbbi_c.specs.Opening.{OpensThrough}
 use Rattle.rbbi_c.specs.declared.held.Held.{Held}
+
+-- The units spell these characters, none of which is a surrogate: such a number would be spelled by the unit that is alone.
+pub record Spells (units text : List ℕ) : Type 0 where
+  pub scalar : all_scalars text ≡ true
+  pub units_are : units ≡ flat_map encode_utf16 text
+
+-- the units and the bytes spell the same characters, in UTF-16 and in UTF-8
+pub record IsWideText (units bytes : List ℕ) : Type 0 where
+  pub text : List ℕ
+  pub spelled : Spells units text
+  pub bytes_are : bytes ≡ encode_utf8_all text
 
 -- the two units make a pair, which stands for one character
 abbrev pub IsPair : ℕ → ℕ → Type 0
@@ -21,7 +32,7 @@ pub record IsLone (units : List ℕ) (at : ℕ) : Type 0 where
 pub record IsFirstLone (units : List ℕ) (at : ℕ) : Type 0 where
   pub lone : IsLone units at
   pub before : List ℕ
-  pub spelled : take at units ≡ flat_map encode_utf16 before
+  pub spelled : Spells (take at units) before
 
 -- Why units aren't taken as a text: a surrogate is alone, whose number is reported; they are too many to be looked at; or memory ran out.
 abbrev pub IsNoWideText : List ℕ → ℕ → ℕ → ℕ → Type 0
@@ -33,10 +44,10 @@ IsNoWideText units code before after =
 abbrev pub OpensWideThrough : Option Held → List ℕ → ℕ → ℕ → ℕ → Option Held → ℕ → Option Held → Type 0
 OpensWideThrough table units unit before after old code now =
     (IsNoWideText units code before after × (now ≡ old))
-    ⊎ ((bytes : List ℕ) × IsUtf16Of units bytes × (after ≡ before) × OpensThrough table bytes unit old code now)
+    ⊎ ((bytes : List ℕ) × IsWideText units bytes × (after ≡ before) × OpensThrough table bytes unit old code now)
 
 -- what an edit by a text in UTF-16 answers: the same as by the text in UTF-8, if it is one
 abbrev pub EditsWideThrough : Option Held → ℕ → ℕ → List ℕ → ℕ → ℕ → ℕ → Option Held → Type 0
 EditsWideThrough held at removed units before after code now =
     (IsNoWideText units code before after × (now ≡ held))
-    ⊎ ((bytes : List ℕ) × IsUtf16Of units bytes × (after ≡ before) × EditsThrough held at removed bytes code now)
+    ⊎ ((bytes : List ℕ) × IsWideText units bytes × (after ≡ before) × EditsThrough held at removed bytes code now)

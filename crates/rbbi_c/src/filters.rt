@@ -18,9 +18,12 @@ use crate::held::Held;
 use rbbi_command::{FilterKind, Place};
 use rbbi_filter::{Abbreviations, Filter, Tailoring};
 use rbbi_props::PropTable;
-use rbbi_text::{LinesErr, MOST_BYTES};
+use rbbi_text::LinesErr;
 use std::alloc::Global;
 use std::rt::Memory;
+
+/// The most bytes that a filter file may have.
+const MOST_FILTER: usize = 65_536;
 
 /// The filter of a file.
 fn read(alloc: Global, kind: FilterKind, bytes: &[u8]) -> Result<Filter, LinesErr>
@@ -62,7 +65,7 @@ fn filter_of(
         (IsFilterRead kind bytes.now (told fault.old name.old) (told fault.new name.new))
         (IsNoFilter kind bytes.now (told fault.old name.old) (told fault.new name.new)) }
 {
-    if bytes.len() > MOST_BYTES {
+    if bytes.len() > MOST_FILTER {
         return Err(codes::TOO_LONG);
     }
     match read(alloc, kind, bytes) {

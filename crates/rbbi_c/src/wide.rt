@@ -4,8 +4,8 @@ ghost use Rattle.std.specs.Prelude.{◌≡◌, ◌<◌, ◌≤◌, ◌++◌, len
 ghost use Rattle.std.specs.Prelude.{MatchOption, MatchResult, string_bytes};
 ghost use Rattle.core.specs.Char.{InScalarRange};
 ghost use Rattle.core.specs.Char.Escape.{encode_utf16};
-ghost use Rattle.std_alloc.specs.String.{IsUtf16Of};
-ghost use Rattle.rbbi_c.specs.Wide.{IsLone, IsNoWideText, OpensWideThrough, EditsWideThrough};
+ghost use Rattle.rbbi_c.specs.Wide.{IsLone, IsWideText, IsNoWideText};
+ghost use Rattle.rbbi_c.specs.Wide.{OpensWideThrough, EditsWideThrough};
 
 use crate::codes;
 use crate::handle::Handle;
@@ -35,7 +35,7 @@ fn char_of(code: u32, next: usize) -> Option<Spelled>
 fn char_at(units: &[u16], at: usize) -> Option<Spelled>
     requires { at < length units.now }
     ensures { MatchOption result (IsLone units.now at) (λ spelled.
-        (at < spelled.next) × (spelled.next ≤ length units.now)
+        (at < spelled.next) × (spelled.next ≤ length units.now) × InScalarRange spelled.c
         × (take spelled.next units.now ≡ take at units.now ++ encode_utf16 spelled.c)) }
 {
     let high = u32::from(units[at]);
@@ -65,7 +65,7 @@ fn char_at(units: &[u16], at: usize) -> Option<Spelled>
 /// is alone is reported.
 fn text_of(alloc: Global, units: &[u16], lone: &mut u32) -> Result<String, u32>
     ensures { MatchResult result
-        (λ text. IsUtf16Of units.now (string_bytes text) × (lone.new ≡ lone.old))
+        (λ text. IsWideText units.now (string_bytes text) × (lone.new ≡ lone.old))
         (λ code. IsNoWideText units.now code lone.old lone.new) }
 {
     if units.len() > MOST_BYTES {

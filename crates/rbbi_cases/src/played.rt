@@ -24,8 +24,7 @@ fn surroundings(block: u32) -> Surroundings {
     }
 }
 
-/// A system in which `.` is a folder, other files that can't be read aren't there, and nobody knows
-/// why the output fails.
+/// A system in which other files than the texts aren't there, and nobody knows why the output fails.
 #[derive(Clone, Copy)]
 struct Memory<'a> {
     /// The texts, which are those of the files.
@@ -44,11 +43,6 @@ impl<'a> System for Memory<'a> {
             Some(bytes) => Ok(bytes),
             None => Err(io::Error::from_raw_os_error(2)),
         }
-    }
-
-    fn unread(&self, name: &str) -> Option<io::Error> {
-        let number = if name == "." { 21 } else { 2 };
-        Some(io::Error::from_raw_os_error(number))
     }
 
     fn unwritten(&self) -> Option<io::Error> {

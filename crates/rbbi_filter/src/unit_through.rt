@@ -38,12 +38,11 @@ impl<M: Moves> UnitThrough<M> {
         UnitThrough { asked, unit }
     }
 
-    /// The session by characters. It takes no memory.
-    pub fn into_asked(self) -> Through<M>
-        ensures { result ≡ self.asked }
+    /// The unit of places.
+    pub fn unit(&self) -> Unit
+        ensures { result ≡ self.now.unit }
     {
-        let UnitThrough { asked, unit: _ } = self;
-        asked
+        self.unit
     }
 
     /// The offset of the boundary at the cursor, where a place was found.

@@ -1,12 +1,13 @@
 //! The active rules of a file without faults, with their trees.
-ghost use Rattle.std.specs.Prelude.{◌≡◌, ◌+◌, ◌<◌, ◌&&◌, not, ℕ, [], None, IfOk, OnOk};
+ghost use Rattle.std.specs.Prelude.{◌≡◌, ◌+◌, ◌<◌, ◌≤◌, ◌&&◌, not, ℕ, [], None, IfOk, OnOk};
 ghost use Rattle.std.specs.Prelude.{length, option_map};
+ghost use Rattle.std.specs.Option.{option_map_or};
 ghost use Rattle.rbbi_model.specs.Rules.{AreLawful};
 ghost use Rattle.rbbi_tree.specs.Values.{statement_trees, rest_tree};
 ghost use Rattle.rbbi_tree.specs.WellMade.{AreWellMade};
-ghost use Rattle.rbbi_resolve.specs.Expressions.{meaning_of_expr};
+ghost use Rattle.rbbi_resolve.specs.Expressions.{meaning_of_expr, height_of_expr};
 ghost use Rattle.rbbi_resolve.specs.Files.{faults_of, active_rules};
-ghost use Rattle.rbbi_resolve.specs.Counts.{size_fault};
+ghost use Rattle.rbbi_resolve.specs.Counts.{size_fault, too_tall_at};
 ghost use Rattle.rbbi_resolve.specs.inner.Contexts.{context_of, files_of, sets_of};
 ghost use Rattle.rbbi_resolve.specs.inner.OwnLeaves.{leaves_of_rest};
 ghost use Rattle.rbbi_resolve.specs.inner.Builders.{IsBuilder, IsReady, Extends, StandFrom};
@@ -37,6 +38,8 @@ fn tree_of_rest(
     requires builder { IsBuilder context.now leaves.now builder.old }
     requires stand { StandFrom context.now leaves.now next.old
         (leaves_of_rest (context_of context.now) (rest_tree rest.now)) }
+    requires low { option_map_or (height_of_expr (context_of context.now))
+        (rest_tree rest.now) 0 ≤ 256 }
     ensures on { OnOk result (Extends context.now leaves.now builder.old builder.new) }
     ensures built { IfOk result (IsRestBuilt (files_of context.now)
         (length (sets_of context.now builder.old.rows.items))
@@ -62,6 +65,8 @@ fn add_statement(
     requires rules { AreRulesTo context.now leaves.now builder.old switches.old rules.old.items
         context.now.limit }
     requires inside { context.now.limit < length context.now.statements.now }
+    requires low { too_tall_at (active_rules (files_of context.now)
+        (statement_trees context.now.statements.now)) ≡ None }
     ensures { OnOk result (AreRulesTo context.now leaves.now builder.new switches.new
         rules.new.items (context.now.limit + 1)) }
 {
@@ -110,6 +115,8 @@ fn rules_with_trees(
     requires builder { IsBuilder context.now leaves.now builder.old }
     requires empty { builder.old.rows.items ≡ [] }
     requires all { context.now.limit ≡ length context.now.statements.now }
+    requires low { too_tall_at (active_rules (files_of context.now)
+        (statement_trees context.now.statements.now)) ≡ None }
     ensures { IfOk result (λ rules. AreAllRules (files_of context.now)
         (statement_trees context.now.statements.now)
         (sets_of context.now builder.new.rows.items) rules.items) }

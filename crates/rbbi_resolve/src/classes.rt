@@ -26,7 +26,7 @@ use std::alloc::{AllocError, Global};
 use std::rc::Rc;
 
 /// The set of a property by classes; None if the property is unknown.
-#[derive(Debug, Drop)]
+#[derive(Drop)]
 pub(crate) struct PropertyClasses {
     pub(crate) question: Rc<Question>,
     pub(crate) set: Rc<Option<ClassSet>>,

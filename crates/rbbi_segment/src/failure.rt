@@ -3,6 +3,7 @@
 use crate::colors::Colors;
 use rbbi_io::WriteErr;
 use std::alloc::{AllocError, AllocFailed};
+use std::io;
 
 /// The exit status where the rule file has a fault.
 pub(crate) const HAS_FAULT: u8 = 1;
@@ -23,8 +24,9 @@ pub(crate) enum Failure {
     Shown(Vec<u8>),
     /// The exit status, and what goes to the standard error.
     Told(u8, Vec<u8>),
-    /// The file of this name couldn't be read. What is reported has these colours.
-    Unread(String, Colors),
+    /// The file of this name couldn't be read, and what the system said of the read that failed, if
+    /// that is known. What is reported has these colours.
+    Unread(String, Option<io::Error>, Colors),
     /// The output couldn't be written.
     Unwritten,
     /// Memory ran out.

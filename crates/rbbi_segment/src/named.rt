@@ -190,7 +190,7 @@ fn put_named<S: System, R: Read, K: Sink, L: Ledger>(
             out,
             steps,
         ),
-        Err(_) => Err(origin.unread()),
+        Err(fault) => Err(origin.unread(Some(fault))),
     }
 }
 

@@ -146,8 +146,7 @@ fn ending<K: Sink, S: System>(
             Err(_) => unwritten(alloc, system.unwritten()),
         },
         Failure::Told(status, message) => Ok((status, message)),
-        Failure::Unread(name, colors) => {
-            let reason = system.unread(name.as_str());
+        Failure::Unread(name, reason, colors) => {
             Ok((IS_REFUSED, unread(alloc, name.as_str(), reason, colors)?))
         }
         Failure::Unwritten => unwritten(alloc, system.unwritten()),

@@ -12,7 +12,7 @@ use crate::faults::{Place, fault_of};
 use rbbi_io::{Files, ReadErr, Sink, put_all, read_at_most};
 use rbbi_text::{PlainText, Raw, RawErr, Steps, TextErr, append, append_number};
 use std::alloc::{AllocError, Global};
-use std::io::Read;
+use std::io::{self, Read};
 use std::sync::ledger::Ledger;
 
 /// The most bytes of a rule file.
@@ -31,22 +31,25 @@ pub(crate) const FILTER_LIMIT: u64 = 65_536;
 const TEXT_LIMIT: u64 = 67_108_864;
 
 /// All bytes of the file of this name, at most `limit`, or of the standard input if it is `-`. What
-/// the files hold stays.
+/// the files hold stays. What the system says of a read that fails is kept in `fault`.
 fn bytes_of<F: Files, R: Read>(
     alloc: Global,
     name: &str,
     limit: u64,
     files: &mut F,
     input: &mut R,
+    fault: &mut Option<io::Error>,
 ) -> Result<Raw, ReadErr>
     ensures within { IfOk result (λ bytes. length bytes ≤ limit) }
     ensures held { IfOk result (IsHeld (F.contents files.old) name.now) }
     ensures same { F.contents files.new ≡ F.contents files.old }
 {
     if name == "-" {
-        read_at_most(alloc, input, limit)
+        read_at_most(alloc, input, limit, fault)
     } else {
-        files.read(alloc, name, limit)
+        let outcome = files.read(alloc, name, limit);
+        *fault = files.read_fault();
+        outcome
     }
 }
 
@@ -63,9 +66,10 @@ pub(crate) fn read<F: Files, R: Read>(
     ensures held { IfOk result (IsHeld (F.contents files.old) name.now) }
     ensures same { F.contents files.new ≡ F.contents files.old }
 {
-    let failure = match bytes_of(alloc, name, limit, files, input) {
+    let mut fault = None;
+    let failure = match bytes_of(alloc, name, limit, files, input, &mut fault) {
         Ok(bytes) => return Ok(bytes),
-        Err(ReadErr::Failed) => Failure::Unread(String::from_str(alloc, name)?, colors),
+        Err(ReadErr::Failed) => Failure::Unread(String::from_str(alloc, name)?, fault, colors),
         Err(ReadErr::TooLong) => fault_of(alloc, IS_REFUSED, name, "TooLong", Place::Whole, colors),
         Err(ReadErr::Memory) => Failure::Memory,
     };

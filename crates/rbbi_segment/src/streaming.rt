@@ -24,7 +24,7 @@ use rbbi_io::Sink;
 use rbbi_table::{FrontPlaces, Table};
 use rbbi_text::{Chars, EditErr, EditText, PlainText, Steps, TextErr, Unit};
 use std::alloc::{AllocError, Global};
-use std::io::{ErrorKind, Read};
+use std::io::{self, ErrorKind, Read};
 use std::sync::ledger::Ledger;
 
 /// How many characters before a boundary a filter looks at.
@@ -68,10 +68,10 @@ impl Origin<'_> {
         fault_of(self.alloc, IS_REFUSED, self.name, label, place, self.colors)
     }
 
-    /// The failure that the text can't be read.
-    pub(crate) fn unread(&self) -> Failure {
+    /// The failure that the text can't be read, with what the system said, if that is known.
+    pub(crate) fn unread(&self, reason: Option<io::Error>) -> Failure {
         match String::from_str(self.alloc, self.name) {
-            Ok(name) => Failure::Unread(name, self.colors),
+            Ok(name) => Failure::Unread(name, reason, self.colors),
             Err(_) => Failure::Memory,
         }
     }
@@ -94,12 +94,12 @@ fn read_block<R: Read>(
             Ok(count) => return Ok(count),
             Err(fault) => {
                 if fault.kind() != ErrorKind::Interrupted {
-                    return Err(origin.unread());
+                    return Err(origin.unread(Some(fault)));
                 }
             }
         }
     }
-    Err(origin.unread())
+    Err(origin.unread(None))
 }
 
 /// What bytes begin with.
@@ -342,5 +342,5 @@ pub(crate) fn hand_over<R: Read, V: Receive, K: Sink, L: Ledger>(
             window.len().saturating_mul(2).min(origin.sizes.window)
         };
     }
-    Err(origin.unread())
+    Err(origin.unread(None))
 }

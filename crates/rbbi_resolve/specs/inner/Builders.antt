@@ -6,7 +6,7 @@ use Rattle.rbbi_model.specs.Ranges.{Range}
 use Rattle.rbbi_model.specs.SetTrees as model
 use Rattle.rbbi_model.specs.Spelling as spelling
 use Rattle.rbbi_props.specs.Rows.{File}
-use Rattle.rbbi_tree.specs.Trees.{ExprTree, StatementTree, assign}
+use Rattle.rbbi_tree.specs.Trees.{StatementTree}
 use Rattle.rbbi_tree.specs.Values.{statement_trees}
 use Rattle.rbbi_classes.specs.Classes.{ClassBits}
 use Rattle.rbbi_classes.specs.CharacterSets.{characters_of}
@@ -77,12 +77,6 @@ pub record IsJoined (make : List spelling.Tree → spelling.Tree) (before parts 
 -- the trees after the first ones became one
 abbrev pub JoinsFrom : (List spelling.Tree → spelling.Tree) → ℕ → List Tree → List Tree → Type 0
 JoinsFrom make first old new = (before parts : List Tree) → first ≡ length before → old ≡ before ++ parts → IsJoined make before parts new
-
--- the statement with this number assigns the expression
-pub record IsAssigned (statements : List StatementTree) (number : ℕ) (expr : ExprTree) : Type 0 where
-  pub word : List ℕ
-  pub place : ℕ
-  pub at : slice_get statements number ≡ Some (assign word place expr)
 
 -- each set is one that a leaf may have, and a leaf with a number has the set of that
 pub record IsBuilder (context : Context) (leaves : FileLeaves) (builder : Builder) : Type 0 where

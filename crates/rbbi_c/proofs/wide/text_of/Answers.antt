@@ -8,5 +8,5 @@ loop-at-preserved c =
       is.1,
       c.loop-at.invariant.1,
       wide_more c.args.units.now (string_bytes c.loop-at.text) (string_bytes c.push.new.self) c.loop-at.at c.in-Some.field-0.next c.in-Some.field-0.c
-          c.loop-at.invariant.2 is.2 c.in-Ok.ensures.bytes,
+          c.loop-at.invariant.2 is.2 is.3 c.in-Ok.ensures.bytes,
     )

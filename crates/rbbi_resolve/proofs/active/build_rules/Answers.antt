@@ -13,7 +13,7 @@ use Rattle.std.proofs.Common.{slice_index}
 use Rattle.rbbi_resolve.proofs.Kept.{files_stay}
 use Rattle.rbbi_resolve.proofs.LeafRows.{statement_rows}
 use Rattle.rbbi_resolve.proofs.SoundFiles.{sound_at, faultless_at}
-use Rattle.rbbi_resolve.proofs.Lawful.{same_leaves, same_slashes, within_anywhere, lawful_rules}
+use Rattle.rbbi_resolve.proofs.Lawful.{same_leaves, same_slashes, within, within_anywhere, lawful_rules}
 use Rattle.rbbi_resolve.proofs.RulesBuilt.{rules_formed, rules_stand, rules_filled}
 use Rattle.rbbi_resolve.proofs.Ending.{counting_all, leaves_counted, slashes_counted}
 use Rattle.rbbi_resolve.proofs.active.build_rules.Goals as goal
@@ -37,6 +37,11 @@ rules_with_trees-requires-clause-ready c =
           (faultless_at files r.dictionary_ignored T n s at c.requires.faultless)
           (leaves.each n s (let low = slice_get_within T n s at in omega arith) at);
     }
+
+pub rules_with_trees-requires-clause-low : goal.rules_with_trees-requires-clause-low
+rules_with_trees-requires-clause-low c =
+    let r = c.args.reading in
+    (within c.requires.few.0 (active_rules r.table.now (statement_trees r.statements.now)) c.requires.few.1).tall
 
 pub rules_with_trees-requires-clause-builder : goal.rules_with_trees-requires-clause-builder
 rules_with_trees-requires-clause-builder c = c.in_ok-builder.ensures.builder _
