@@ -5,7 +5,8 @@ ghost use Rattle.rbbi_session.specs.Sessions.{place_reply};
 ghost use Rattle.rbbi_session.specs.Walks.{IsAsked, reply_to};
 ghost use Rattle.rbbi_session.specs.UnitWalks.{unit_view};
 
-use rbbi_session::{UnitSession, Walk};
+use crate::shared::SharedTable;
+use rbbi_session::{UnitSessionBy, Walk};
 use rbbi_text::{Pieces, Steps};
 use std::sync::ledger::Ledger;
 
@@ -43,7 +44,7 @@ pub(crate) fn found(place: Option<u32>) -> Told
 /// Asks a session.
 #[inline(always)]
 pub(crate) fn answered<L: Ledger>(
-    session: &mut UnitSession<'_, Pieces>,
+    session: &mut UnitSessionBy<SharedTable, Pieces>,
     asked: Ask,
     steps: &mut Steps<L>,
 ) -> Told

@@ -28,9 +28,7 @@ impl Filter {
         ensures cost { RisesUpTo (reporting_cost self.now) steps.old steps.new }
     {
         match self {
-            Filter::Suppressing(list) => {
-                !is_suppressed(text, at, list, &|w: &[char]| list.ends(w), steps)
-            }
+            Filter::Suppressing(list) => { !is_suppressed(text, at, list, steps) }
             Filter::Turning(_) => true,
         }
     }
