@@ -1,0 +1,16 @@
+-- Numbers that are written where the caller wants them.
+use Rattle.std.specs.Prelude.{◌≡◌, ℕ, ◌+◌, ◌<◌, ◌≤◌, ◌⊎◌, List, length, slice_index}
+
+-- The numbers stand from a place of the room on, as far as there is room. Nothing else changed.
+pub record IsFilled (old new : List ℕ) (from : ℕ) (numbers : List ℕ) : Type 0 where
+  pub same_room : length new ≡ length old
+  pub written : (k : ℕ) → k < length numbers → from + k < length old → slice_index new (from + k) ≡ slice_index numbers k
+  pub others : (k : ℕ) → (k < from) ⊎ (from + length numbers ≤ k) → slice_index new k ≡ slice_index old k
+
+-- where places are wanted, and their statuses
+pub record Columns : Type 0 where
+  pub places : List ℕ
+  pub statuses : List ℕ
+
+abbrev pub columns : List ℕ → List ℕ → Columns
+columns places statuses = record { places = places; statuses = statuses }
