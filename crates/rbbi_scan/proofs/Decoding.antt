@@ -2,12 +2,12 @@
 use Rattle.std.proofs.Common.{◌≡◌, ◌≢◌, ℕ, ◌+◌, ◌-◌, ◌*◌, ◌<◌, ◌≤◌, ◌⊎◌, List, [], ◌∷◌, ◌++◌, length, take, drop, set, get_or, refl, sym, ap, ◌∙◌, subst}
 use Rattle.std.proofs.Common.{⊎_elim, arith, append_assoc, length-append, length-drop, length-take, length-set, sum_by}
 use Rattle.std.specs.Prelude.{IsUtf8, encode_utf8}
-use Rattle.std.specs.Str.{IsValidUpTo}
+use Rattle.std.specs.Str.{IsAscii, IsValidUpTo}
 use Rattle.std.proofs.lemmas.Bool.{cases_lt}
 use Rattle.std.proofs.lemmas.Grind.{get_or-set_at}
-use Rattle.std.proofs.lemmas.List.{take_more_set, take-set-le, flat_map_more, get_or-set_other, take-take, take_at}
+use Rattle.std.proofs.lemmas.List.{take_more_set, take-set-le, flat_map_more, get_or-set_other, get_or-take, get_or-drop, get_or_past, take-take, take_at, drop_more}
 use Rattle.std.proofs.lemmas.List.Sums.{sum_by_push}
-use Rattle.std.proofs.lemmas.Str.{IsUtf8-encode}
+use Rattle.std.proofs.lemmas.Str.{IsUtf8-encode, encode_ascii, len_utf8_ascii}
 use Rattle.rbbi_model.specs.declared.unit.Unit.{Unit as TextUnit}
 use Rattle.rbbi_model.specs.declared.unit.Unit.TheVariants.{Utf8}
 use Rattle.rbbi_model.specs.Units.{size_of, offset_of}
@@ -113,3 +113,41 @@ front_none bytes block most block_is enough valid c is begins =
     let same : take n block ≡ encode_utf8 c =
     ap (take n) block_is ∙ take-take n most bytes low ∙ ap (take n) begins.1 ∙ take_at (encode_utf8 c) begins.0 n refl in
     valid.longest n (omega (arith, size, some.0)) (subst IsUtf8 (sym same) (IsUtf8-encode c (scalar_of c is)))
+
+-- bytes none of which is greater than one of ASCII
+pub ascii_below : (bytes : List ℕ) (greatest : ℕ) → ((k : ℕ) → k < length bytes → get_or bytes k 0 ≤ greatest) → greatest < 128 → IsAscii bytes
+ascii_below bytes greatest below small k =
+    ⊎_elim
+    (λ inside. omega (arith, below k inside))
+    (λ past. let none = get_or_past bytes k 0 past in omega (arith, none))
+    (cases_lt k (length bytes))
+
+-- one byte of ASCII more
+pub decoded_ascii : (bytes chars ends longer more : List ℕ) (count used len k n : ℕ) → IsDecoded Utf8 bytes chars ends (count + k) (used + k) →
+    IsAscii (take len (drop used bytes)) → k < len → used + len ≤ length bytes → count + len ≤ length chars → length ends ≡ length chars →
+    longer ≡ set chars (count + k) (get_or bytes (used + k) 0) → more ≡ set ends (count + k) (used + k + 1) → n ≡ k + 1 →
+    IsDecoded Utf8 bytes longer more (count + n) (used + n)
+decoded_ascii bytes chars ends longer more count used len k n so_far ascii low within fit same longer_is more_is next =
+    subst (λ i. IsDecoded Utf8 bytes longer more i (used + n)) counted
+    (subst (λ i. IsDecoded Utf8 bytes longer more (count + k + 1) i) reached
+    (decoded_more Utf8 bytes chars ends longer more (count + k) (used + k) (used + k + 1) (get_or bytes (used + k) 0) so_far (omega (arith, low, fit)) same
+    (omega (arith, small), λ lies. omega (arith, small, lies.0)) (ap (λ m. used + k + m) (sym size)) split longer_is more_is))
+  where
+    counted : count + k + 1 ≡ count + n
+    counted = omega (arith, next)
+
+    reached : used + k + 1 ≡ used + n
+    reached = omega (arith, next)
+
+    small : get_or bytes (used + k) 0 < 128
+    small =
+        let here : get_or (take len (drop used bytes)) k 0 ≡ get_or bytes (used + k) 0 = get_or-take len (drop used bytes) k 0 low ∙ get_or-drop used bytes k 0 in
+        omega (arith, here, ascii k)
+
+    size : size_of Utf8 (get_or bytes (used + k) 0) ≡ 1
+    size = len_utf8_ascii (get_or bytes (used + k) 0) small
+
+    split : drop (used + k) bytes ≡ encode_utf8 (get_or bytes (used + k) 0) ++ drop (used + k + 1) bytes
+    split =
+        drop_more bytes (used + k) 0 (omega (arith, low, within))
+        ∙ ap (λ l. l ++ drop (used + k + 1) bytes) (sym (encode_ascii (get_or bytes (used + k) 0) small))

@@ -1,8 +1,8 @@
 -- A window that was decoded from the units of a text, and where it stands in the text.
-use Rattle.std.proofs.Common.{◌≡◌, ℕ, zero, suc, ◌+◌, ◌-◌, ◌<◌, ◌≤◌, ◌⊎◌, Bool, true, false, List, [], ◌∷◌, ◌++◌, length, take, drop, get_or, refl, sym, ap, ◌∙◌, subst}
+use Rattle.std.proofs.Common.{◌≡◌, ℕ, cond, eqb, zero, suc, ◌+◌, ◌-◌, ◌<◌, ◌≤◌, ◌⊎◌, Bool, true, false, List, [], ◌∷◌, ◌++◌, length, take, drop, get_or, refl, sym, ap, ◌∙◌, subst}
 use Rattle.std.proofs.Common.{inl, inr, ⊎_elim, arith, append_assoc, append-nil, length-append, length-drop, length-take, take-append-drop, sum_by}
 use Rattle.std.specs.Prelude.{IsTrue, ◌==◌}
-use Rattle.std.proofs.lemmas.Bool.{eq-eqb, cases_lt, false≢true}
+use Rattle.std.proofs.lemmas.Bool.{eq-eqb, ne_eqb, cases_lt, false≢true}
 use Rattle.std.proofs.lemmas.List.{drop-drop, drop_at, drop-append-le, take-append-le, take-take, take_at, get_or-take, nil_from_length}
 use Rattle.std.proofs.lemmas.List.Concat.{flat_map-append}
 use Rattle.std.proofs.lemmas.List.Sums.{sum_by-take-le, sum_by-cons}
@@ -34,6 +34,16 @@ none_longer unit units others long none c is begins =
     let low : n ≤ length units = omega (arith, long, size_is unit c, (size_some unit c).1) in
     let front : take n units ≡ s = sym (take-append-le n units others low) ∙ ap (take n) begins.1 ∙ take_at s begins.0 n refl in
     none c is (drop n units, sym (take-append-drop n units) ∙ ap (λ l. l ++ drop n units) front)
+
+-- how many units the characters before a place take, by where each ends
+pub before_is : (unit : TextUnit) (w ends : List ℕ) (at : ℕ) → AreEnds unit w ends (length w) → at ≤ length w →
+    cond (eqb at 0) 0 (get_or ends (at - 1) 0) ≡ offset_of unit w at
+before_is unit w ends zero ends_are inside = refl
+before_is unit w ends (suc at) ends_are inside =
+    let back : suc at - 1 ≡ at = omega arith in
+    let next : at + 1 ≡ suc at = omega arith in
+    ap (λ t. cond t 0 (get_or ends (suc at - 1) 0)) (ne_eqb (suc at) 0 (λ same. omega (arith, same)))
+    ∙ ap (λ n. get_or ends n 0) back ∙ ends_are at (omega (arith, inside)) ∙ ap (offset_of unit w) next
 
 -- where each of the characters ends isn't past where the last does
 pub end_within : (unit : TextUnit) (units chars ends : List ℕ) (count used : ℕ) → IsDecoded unit units chars ends count used → (k : ℕ) → k < count →
@@ -72,10 +82,13 @@ module _ (unit : TextUnit) (units chars ends : List ℕ) (count used : ℕ) (dec
       get_or-take count ends k 0 low ∙ decoded.ends_are k low
       ∙ ap (sum_by (size_of unit)) (sym (take-take (k + 1) count chars (omega (arith, low))))
 
-  pub end_of_place : (at : ℕ) → 1 ≤ at → at ≤ length (take count chars) → get_or (take count ends) (at - 1) 0 ≡ offset_of unit (take count chars) at
-  end_of_place at some inside =
-      let back : at - 1 + 1 ≡ at = omega (arith, some) in
-      ends_kept (at - 1) (omega (arith, some, inside)) ∙ ap (offset_of unit (take count chars)) back
+  -- how many units the characters before a place take
+  pub units_at : (at : ℕ) → at ≤ length (take count chars) → (n : ℕ) → n ≡ cond (eqb at 0) 0 (get_or (take count ends) (at - 1) 0) →
+      n ≡ offset_of unit (take count chars) at
+  units_at at inside n is = is ∙ before_is unit (take count chars) (take count ends) at ends_kept inside
+
+  pub units_low : (at : ℕ) → at ≤ length (take count chars) → (n : ℕ) → n ≡ cond (eqb at 0) 0 (get_or (take count ends) (at - 1) 0) → n ≤ used
+  units_low at inside n is = omega (arith, units_at at inside n is, decoded.used_is, sum_by-take-le (size_of unit) (take count chars) at)
 
 module _ (unit : TextUnit) (units others : List ℕ) (is_last : Bool) (begin end : ℕ) (x : List ℕ) (place resume : ℕ)
     (over : IsTextOver unit units others is_last begin end x place resume) (low : resume ≤ length units)

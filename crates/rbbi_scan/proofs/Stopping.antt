@@ -16,6 +16,7 @@ use Rattle.rbbi_scan.specs.Scanning.{IsTextOver, HasGone, GoesOn, ScansOn, StopI
 use Rattle.rbbi_scan.specs.Spelled.{BeginWithNone}
 use Rattle.rbbi_scan.specs.Windows.{IsWindow}
 use Rattle.rbbi_scan.specs.declared.filling.Filled.{Filled}
+use Rattle.rbbi_scan.specs.declared.reached.Asked.{Asked}
 use Rattle.rbbi_scan.specs.declared.reached.Reached.{Reached}
 use Rattle.rbbi_scan.specs.declared.reached.Stop.{Stop}
 use Rattle.rbbi_scan.specs.declared.reached.Stop.TheVariants.{End, Room, More, Fault, Far, Memory}
@@ -32,13 +33,13 @@ pub goes_further : (is_last : Bool) (len room size : ℕ) (decoded : Decoded) (f
 goes_further is_last len room size decoded filled end None turn stop_is stopped more = stop_is
 goes_further is_last len room size decoded filled end (Some why) turn stop_is stopped more = absurd (false≢true (sym more ∙ stopped.0))
 
-module _ (unit : TextUnit) (table : Table) (units : List ℕ) (is_last : Bool) (start : Reached) (chars ends : List ℕ) (decoded : Decoded) (filled : Filled)
+module _ (unit : TextUnit) (table : Table) (asked : Asked) (units : List ℕ) (is_last : Bool) (start : Reached) (chars ends : List ℕ) (decoded : Decoded) (filled : Filled)
     (before after : Columns) (is_final : Bool) (low : start.resume ≤ length units)
     (is_decoded : IsDecoded unit (drop start.resume units) chars ends decoded.count decoded.used)
     (all_decoded : decoded.count < length chars → BeginWithNone unit (drop (start.resume + decoded.used) units))
     (final : IsTrue is_final → IsTrue is_last × (start.resume + decoded.used ≡ length units)) (some : 0 < length chars)
     (inside : filled.at ≤ length (take decoded.count chars))
-    (fills : FillsOn table (take decoded.count chars) (take decoded.count ends) start.resume is_final start.count before after filled)
+    (fills : FillsOn table asked (take decoded.count chars) (take decoded.count ends) start.resume is_final start.count before after filled)
     (fills_all : FillsAll table (take decoded.count chars) is_final (length before.places) filled) where
   module _ (others x : List ℕ) (begin end place : ℕ) (over : IsTextOver unit units others is_last begin end x place start.resume) where
     abbrev rest : List ℕ
@@ -110,7 +111,7 @@ module _ (unit : TextUnit) (table : Table) (units : List ℕ) (is_last : Bool) (
         → StopIs is_last (length units) (length before.places) (length chars) decoded filled (start.resume + decoded.used) stop
         → turn.reached.count ≡ filled.count → turn.reached.resume ≡ start.resume + offset_of unit (take decoded.count chars) filled.at
         → MatchOption stop (turn.is_over ≡ false) (λ why. IsTrue turn.is_over × (turn.reached.stop ≡ why))
-        → HasGone unit table is_last (length chars) units others begin end x place start before after turn
+        → HasGone unit table asked is_last (length chars) units others begin end x place start before after turn
     goes_there stop turn stop_is count_is resume_is stopped =
         let stands = at.stands unit units others is_last begin end x place start.resume over low chars ends decoded.count decoded.used is_decoded is_final final in
         let given = fills unit (end == length (units ++ others)) begin place rest x stands in
@@ -119,7 +120,7 @@ module _ (unit : TextUnit) (table : Table) (units : List ℕ) (is_last : Bool) (
           last = place + filled.at;
           over = at.over_at unit units others is_last begin end x place start.resume over low chars ends decoded.count decoded.used is_decoded filled.at
               turn.reached.resume inside resume_is;
-          on = subst (λ n. GivesOn unit table (end == length (units ++ others)) begin x place (place + filled.at) given.0 start.count n before after)
+          on = subst (λ n. GivesOn unit table asked.only_words (end == length (units ++ others)) (asked.origin + begin) x place (place + filled.at) given.0 start.count n before after)
               (sym count_is) given.1;
           stops = by_stop stop stop_is stopped;
         }
@@ -141,26 +142,26 @@ module _ (unit : TextUnit) (table : Table) (units : List ℕ) (is_last : Bool) (
       → StopIs is_last (length units) (length before.places) (length chars) decoded filled (start.resume + decoded.used) stop
       → turn.reached.count ≡ filled.count → turn.reached.resume ≡ start.resume + offset_of unit (take decoded.count chars) filled.at
       → MatchOption stop (turn.is_over ≡ false) (λ why. IsTrue turn.is_over × (turn.reached.stop ≡ why))
-      → GoesOn unit table is_last (length chars) units start before after turn
+      → GoesOn unit table asked is_last (length chars) units start before after turn
   goes_one stop turn stop_is count_is resume_is stopped others x begin end place over =
       goes_there others x begin end place over stop turn stop_is count_is resume_is stopped
 
-module _ (unit : TextUnit) (table : Table) (is_last : Bool) (units : List ℕ) where
+module _ (unit : TextUnit) (table : Table) (asked : Asked) (is_last : Bool) (units : List ℕ) where
   -- before the first window
   pub goes_none : (most : ℕ) (start : Reached) (columns : Columns)
-      → GoesOn unit table is_last most units start columns columns (record { reached = start; is_over = false })
+      → GoesOn unit table asked is_last most units start columns columns (record { reached = start; is_over = false })
   goes_none most start columns others x begin end place over = record {
     given = [];
     last = place;
     over = over;
-    on = gives_none unit table (end == length (units ++ others)) begin x place start.count columns;
+    on = gives_none unit table asked.only_words (end == length (units ++ others)) (asked.origin + begin) x place start.count columns;
     stops = λ never. absurd (false≢true never);
   }
 
   -- one window after others
   pub goes_append : (most : ℕ) (start : Reached) (before middle after : Columns) (turn next : Turn)
-      → GoesOn unit table is_last most units start before middle turn → GoesOn unit table is_last most units turn.reached middle after next
-      → GoesOn unit table is_last most units start before after next
+      → GoesOn unit table asked is_last most units start before middle turn → GoesOn unit table asked is_last most units turn.reached middle after next
+      → GoesOn unit table asked is_last most units start before after next
   goes_append most start before middle after turn next first second others x begin end place over =
       let gone = first others x begin end place over in
       let more = second others x begin end gone.last gone.over in
@@ -168,7 +169,7 @@ module _ (unit : TextUnit) (table : Table) (is_last : Bool) (units : List ℕ) w
         given = gone.given ++ more.given;
         last = more.last;
         over = more.over;
-        on = gives_append unit table (end == length (units ++ others)) begin x place gone.last more.last gone.given more.given start.count
+        on = gives_append unit table asked.only_words (end == length (units ++ others)) (asked.origin + begin) x place gone.last more.last gone.given more.given start.count
             turn.reached.count next.reached.count before middle after gone.on more.on;
         stops = λ ended. subst
             (λ n. StopsFor unit table is_last (units ++ others) end x more.last next.reached.count n most next.reached.stop)
@@ -177,7 +178,7 @@ module _ (unit : TextUnit) (table : Table) (is_last : Bool) (units : List ℕ) w
 
   -- what is given by windows that are over
   pub scans_of : (most : ℕ) (start : Reached) (before after : Columns) (turn : Turn) → IsTrue turn.is_over
-      → GoesOn unit table is_last most units start before after turn → ScansOn unit table is_last most units start before after turn.reached
+      → GoesOn unit table asked is_last most units start before after turn → ScansOn unit table asked is_last most units start before after turn.reached
   scans_of most start before after turn ended goes others x begin end place over =
       let gone = goes others x begin end place over in
       record {
@@ -191,23 +192,23 @@ module _ (unit : TextUnit) (table : Table) (is_last : Bool) (units : List ℕ) w
 
   -- nothing is given where memory runs out
   pub scans_none : (most : ℕ) (start reached : Reached) (columns : Columns) → reached ≡ record start { stop = Memory }
-      → ScansOn unit table is_last most units start columns columns reached
+      → ScansOn unit table asked is_last most units start columns columns reached
   scans_none most start reached columns is =
-      subst (ScansOn unit table is_last most units start columns columns) (sym is)
+      subst (ScansOn unit table asked is_last most units start columns columns) (sym is)
       (λ others x begin end place over. record {
         given = [];
         last = place;
         within = over.within;
-        on = gives_none unit table (end == length (units ++ others)) begin x place start.count columns;
+        on = gives_none unit table asked.only_words (end == length (units ++ others)) (asked.origin + begin) x place start.count columns;
         resume_is = over.resume_is;
         stops = tt;
       })
 
   -- windows of another size after those
-  pub scans_append : (size most : ℕ) (start mid last : Reached) (before middle after : Columns)
-      → ScansOn unit table is_last size units start before middle mid → ScansOn unit table is_last most units mid middle after last
-      → ScansOn unit table is_last most units start before after last
-  scans_append size most start mid last before middle after first second others x begin end place over =
+  pub scans_append : (wide most : ℕ) (start mid last : Reached) (before middle after : Columns)
+      → ScansOn unit table asked is_last wide units start before middle mid → ScansOn unit table asked is_last most units mid middle after last
+      → ScansOn unit table asked is_last most units start before after last
+  scans_append wide most start mid last before middle after first second others x begin end place over =
       let gives = first others x begin end place over in
       let more = second others x begin end gives.last
       (record { last = over.last; text = over.text; within = gives.within; resume_is = gives.resume_is }) in
@@ -215,26 +216,26 @@ module _ (unit : TextUnit) (table : Table) (is_last : Bool) (units : List ℕ) w
         given = gives.given ++ more.given;
         last = more.last;
         within = more.within;
-        on = gives_append unit table (end == length (units ++ others)) begin x place gives.last more.last gives.given more.given start.count
+        on = gives_append unit table asked.only_words (end == length (units ++ others)) (asked.origin + begin) x place gives.last more.last gives.given more.given start.count
             mid.count last.count before middle after gives.on more.on;
         resume_is = more.resume_is;
         stops = subst (λ n. StopsFor unit table is_last (units ++ others) end x more.last last.count n most last.stop)
             gives.on.in_places.same_room more.stops;
       }
 
-  stops_any : (size most : ℕ) (all : List ℕ) (end : ℕ) (x : List ℕ) (last count room : ℕ) (stop : Stop) → IsFarIf false stop
-      → StopsFor unit table is_last all end x last count room size stop → StopsFor unit table is_last all end x last count room most stop
-  stops_any size most all end x last count room End far stops = stops
-  stops_any size most all end x last count room Room far stops = stops
-  stops_any size most all end x last count room More far stops = stops
-  stops_any size most all end x last count room (Fault at) far stops = stops
-  stops_any size most all end x last count room Far far stops = absurd (false≢true far)
-  stops_any size most all end x last count room Memory far stops = stops
+  stops_any : (wide most : ℕ) (all : List ℕ) (end : ℕ) (x : List ℕ) (last count room : ℕ) (stop : Stop) → IsFarIf false stop
+      → StopsFor unit table is_last all end x last count room wide stop → StopsFor unit table is_last all end x last count room most stop
+  stops_any wide most all end x last count room End far stops = stops
+  stops_any wide most all end x last count room Room far stops = stops
+  stops_any wide most all end x last count room More far stops = stops
+  stops_any wide most all end x last count room (Fault at) far stops = stops
+  stops_any wide most all end x last count room Far far stops = absurd (false≢true far)
+  stops_any wide most all end x last count room Memory far stops = stops
 
   -- the size doesn't matter where no search reads on past a window
-  pub scans_any : (size most : ℕ) (start reached : Reached) (before after : Columns) → IsFarIf false reached.stop
-      → ScansOn unit table is_last size units start before after reached → ScansOn unit table is_last most units start before after reached
-  scans_any size most start reached before after near scans others x begin end place over =
+  pub scans_any : (wide most : ℕ) (start reached : Reached) (before after : Columns) → IsFarIf false reached.stop
+      → ScansOn unit table asked is_last wide units start before after reached → ScansOn unit table asked is_last most units start before after reached
+  scans_any wide most start reached before after near scans others x begin end place over =
       let gives = scans others x begin end place over in
       record {
         given = gives.given;
@@ -242,5 +243,5 @@ module _ (unit : TextUnit) (table : Table) (is_last : Bool) (units : List ℕ) w
         within = gives.within;
         on = gives.on;
         resume_is = gives.resume_is;
-        stops = stops_any size most (units ++ others) end x gives.last reached.count (length before.places) reached.stop near gives.stops;
+        stops = stops_any wide most (units ++ others) end x gives.last reached.count (length before.places) reached.stop near gives.stops;
       }

@@ -17,6 +17,7 @@ use Rattle.rbbi_scan.specs.Giving.{Gives}
 use Rattle.rbbi_scan.specs.Leading.{Lead, past}
 use Rattle.rbbi_scan.specs.Scanning.{ScansOn}
 use Rattle.rbbi_scan.specs.Spelled.{IsTextIn}
+use Rattle.rbbi_scan.specs.declared.reached.Asked.{Asked}
 use Rattle.rbbi_scan.specs.declared.reached.Reached.{Reached}
 
 module _ (table : Table) (x : List ℕ) where
@@ -171,18 +172,21 @@ module _ (table : Table) (x : List ℕ) where
       ∙ ap (λ bs. given ++ bs) (sym (past_is last (length x) start (omega arith) (last_is is_whole place last given here lead)))
 
 -- what a scan of units that are all gives of their text
-pub breaks_at : (unit : TextUnit) (table : Table) (units : List ℕ) (start : Reached) (before after : Columns) (reached : Reached) →
-    ScansOn unit table true most_characters units start before after reached → start.count ≡ 0 →
+pub breaks_at : (unit : TextUnit) (table : Table) (asked : Asked) (units : List ℕ) (start : Reached) (before after : Columns) (reached : Reached) →
+    asked.origin ≡ 0 → ScansOn unit table asked true most_characters units start before after reached → start.count ≡ 0 →
     (x : List ℕ) (begin end place : ℕ) → IsTextIn unit units begin end x → place ≤ length x → start.resume ≡ begin + offset_of unit x place →
-    BreaksAt unit table units begin end x place before after reached
-breaks_at unit table units start before after reached scans none x begin end place text within resume_is =
+    BreaksAt unit table asked.only_words units begin end x place before after reached
+breaks_at unit table asked units start before after reached origin scans none x begin end place text within resume_is =
     let there = scans [] x begin end place (record {
       last = λ _. refl;
       text = subst (λ l. IsTextIn unit l begin end x) (sym (append-nil units)) text;
       within = within;
       resume_is = resume_is;
     }) in
-    let gives : Gives unit table true most_characters units begin end x place 0 before after reached =
-    subst (λ n. Gives unit table true most_characters units begin end x place n before after reached) none
-    (subst (λ l. Gives unit table true most_characters l begin end x place start.count before after reached) (append-nil units) there) in
+    let is : asked ≡ record { only_words = asked.only_words; origin = 0 } = λ i. record { only_words = asked.only_words; origin = origin i } in
+    let gives : Gives unit table (record { only_words = asked.only_words; origin = 0 }) true most_characters units begin end x place 0 before after reached =
+    subst (λ n. Gives unit table (record { only_words = asked.only_words; origin = 0 }) true most_characters units begin end x place n before after reached) none
+    (subst (λ l. Gives unit table (record { only_words = asked.only_words; origin = 0 }) true most_characters l begin end x place start.count before after reached)
+    (append-nil units)
+    (subst (λ a. Gives unit table a true most_characters (units ++ []) begin end x place start.count before after reached) is there)) in
     record { gives = gives; whole = whole_is table x _ place gives.last gives.given gives.on.found }

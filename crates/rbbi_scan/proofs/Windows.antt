@@ -34,6 +34,11 @@ module _ (place : ℕ) (w rest x : List ℕ) (is : IsWindow place w rest x) wher
       let low : i ≤ length w = omega (arith, high) in
       sym (ap (take n) (from_place i low) ∙ take-append-le n (drop i w) rest (omega (arith, high, length-drop i w)))
 
+  pub slice_is : (i j : ℕ) → i ≤ j → j ≤ length w → slice_range w i j ≡ slice_range x (place + i) (place + j)
+  slice_is i j low high =
+      let size : place + j - (place + i) ≡ j - i = omega arith in
+      piece_is i (j - i) (omega (arith, low, high)) ∙ ap (λ n. take n (drop (place + i) x)) (sym size)
+
   -- a search that doesn't read on at the window's end, or where the text ends there, finds the same in the text
   reads_alike : (table : Table) (s : ℕ) → s < length w → (look_end table w s ≤ length w) ⊎ (rest ≡ []) → ReadsAlike table w x s (place + s)
   reads_alike table s inside how =

@@ -7,10 +7,11 @@ pub record IsFilled (old new : List ℕ) (from : ℕ) (numbers : List ℕ) : Typ
   pub written : (k : ℕ) → k < length numbers → from + k < length old → slice_index new (from + k) ≡ slice_index numbers k
   pub others : (k : ℕ) → (k < from) ⊎ (from + length numbers ≤ k) → slice_index new k ≡ slice_index old k
 
--- where places are wanted, and their statuses
+-- where the starts of segments are wanted, their ends, and the statuses there
 pub record Columns : Type 0 where
+  pub starts : List ℕ
   pub places : List ℕ
   pub statuses : List ℕ
 
-abbrev pub columns : List ℕ → List ℕ → Columns
-columns places statuses = record { places = places; statuses = statuses }
+abbrev pub columns : List ℕ → List ℕ → List ℕ → Columns
+columns starts places statuses = record { starts = starts; places = places; statuses = statuses }

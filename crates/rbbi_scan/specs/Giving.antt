@@ -8,26 +8,32 @@ use Rattle.rbbi_model.specs.Units.{offset_of}
 use Rattle.rbbi_model.specs.Searches.{look_end}
 use Rattle.rbbi_scan.specs.Columns.{Columns, IsFilled}
 use Rattle.rbbi_scan.specs.Leading.{Lead}
+use Rattle.rbbi_scan.specs.Segments.{Segment, segments_of}
 use Rattle.rbbi_scan.specs.Spelled.{IsFaultAt}
+use Rattle.rbbi_scan.specs.declared.reached.Asked.{Asked}
 use Rattle.rbbi_scan.specs.declared.reached.Stop.{Stop}
 use Rattle.rbbi_scan.specs.declared.reached.Stop.TheVariants.{End, Room, More, Fault, Far, Memory}
 use Rattle.rbbi_scan.specs.declared.reached.Reached.{Reached}
 
--- where the boundaries lie, by where the text begins
-abbrev pub offsets_of : TextUnit → ℕ → List ℕ → List Boundary → List ℕ
-offsets_of unit begin x boundaries = map (λ boundary. begin + offset_of unit x boundary.at) boundaries
+-- where the segments start and end in the unit, by where the text begins
+abbrev pub starts_of : TextUnit → ℕ → List ℕ → List Segment → List ℕ
+starts_of unit first x segments = map (λ segment. first + offset_of unit x segment.start) segments
 
--- the greatest status of each
-abbrev pub greatest_of : List Boundary → List ℕ
-greatest_of boundaries = map (λ boundary. largest boundary.statuses) boundaries
+abbrev pub ends_of : TextUnit → ℕ → List ℕ → List Segment → List ℕ
+ends_of unit first x segments = map (λ segment. first + offset_of unit x segment.end) segments
 
--- These boundaries lead from one place of the text to another, and are written behind the first so many.
-pub record GivesOn (unit : TextUnit) (table : Table) (is_whole : Bool) (begin : ℕ) (x : List ℕ) (place last : ℕ) (given : List Boundary)
+-- the greatest status at the end of each
+abbrev pub greatest_of : List Segment → List ℕ
+greatest_of segments = map (λ segment. largest segment.statuses) segments
+
+-- These boundaries lead from one place of the text to another, and the segments that they end are written after the first so many.
+pub record GivesOn (unit : TextUnit) (table : Table) (only_words is_whole : Bool) (first : ℕ) (x : List ℕ) (place last : ℕ) (given : List Boundary)
     (count now : ℕ) (before after : Columns) : Type 0 where
   pub found : Lead is_whole table x place given last
-  pub counted : now ≡ count + length given
-  pub in_places : IsFilled before.places after.places count (offsets_of unit begin x given)
-  pub in_statuses : IsFilled before.statuses after.statuses count (greatest_of given)
+  pub counted : now ≡ count + length (segments_of only_words x place given)
+  pub in_starts : IsFilled before.starts after.starts count (starts_of unit first x (segments_of only_words x place given))
+  pub in_places : IsFilled before.places after.places count (ends_of unit first x (segments_of only_words x place given))
+  pub in_statuses : IsFilled before.statuses after.statuses count (greatest_of (segments_of only_words x place given))
 
 -- Why no more were given: the text ends there; there is no room for more; the search from there reads on past units that more may follow,
 -- or reads a fault, or reads on past so many characters; or memory ran out.
@@ -41,11 +47,11 @@ StopsFor unit table is_last units end x last count room most Far = last + most <
 StopsFor unit table is_last units end x last count room most Memory = Unit {0}
 
 -- The boundaries of the text that follow a place are given, up to another place, and it is said why no more were.
-pub record Gives (unit : TextUnit) (table : Table) (is_last : Bool) (most : ℕ) (units : List ℕ) (begin end : ℕ) (x : List ℕ) (place count : ℕ)
+pub record Gives (unit : TextUnit) (table : Table) (asked : Asked) (is_last : Bool) (most : ℕ) (units : List ℕ) (begin end : ℕ) (x : List ℕ) (place count : ℕ)
     (before after : Columns) (reached : Reached) : Type 0 where
   pub given : List Boundary
   pub last : ℕ
   pub within : last ≤ length x
-  pub on : GivesOn unit table (end == length units) begin x place last given count reached.count before after
+  pub on : GivesOn unit table asked.only_words (end == length units) (asked.origin + begin) x place last given count reached.count before after
   pub resume_is : reached.resume ≡ begin + offset_of unit x last
   pub stops : StopsFor unit table is_last units end x last reached.count (length before.places) most reached.stop

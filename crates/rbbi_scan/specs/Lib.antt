@@ -6,5 +6,6 @@ pub mod Giving
 pub mod Greatest
 pub mod Leading
 pub mod Scanning
+pub mod Segments
 pub mod Spelled
 pub mod Windows

@@ -14,5 +14,5 @@ mod utf16;
 mod utf8;
 mod window;
 
-pub use breaks::{breaks_utf8, breaks_utf16};
+pub use breaks::{breaks_utf8, breaks_utf16, words_utf8, words_utf16};
 pub use reached::{Reached, Stop};

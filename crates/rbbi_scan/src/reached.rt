@@ -17,12 +17,21 @@ pub enum Stop {
     Memory,
 }
 
+/// What is asked for.
+#[derive(Clone, Copy)]
+pub(crate) struct Asked {
+    /// Whether segments that are words alone are.
+    pub(crate) only_words: bool,
+    /// The number of units that stand before these.
+    pub(crate) origin: u64,
+}
+
 /// How far the boundaries of a text were given.
 #[derive(Clone, Copy, Debug, PartialEq, Eq)]
 pub struct Reached {
-    /// How many boundaries were written.
+    /// How many were written.
     pub count: usize,
-    /// The last of them, or where the call began: the place to go on from.
+    /// The last boundary that was found, or where the call began: the place to go on from.
     pub resume: usize,
     /// Why no more were given.
     pub stop: Stop,

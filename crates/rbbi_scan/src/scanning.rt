@@ -1,13 +1,13 @@
 //! Boundaries of a text, by windows.
-ghost use Rattle.std.specs.Prelude.{◌≡◌, ◌+◌, ◌<◌, ◌≤◌, ◌⊎◌, length, IsTrue, MatchOption, false};
+ghost use Rattle.std.specs.Prelude.{◌≡◌, ◌+◌, ◌^◌, ◌<◌, ◌≤◌, ◌⊎◌, length, IsTrue, MatchOption, false};
 ghost use Rattle.rbbi_model.specs.Words.{most_characters};
 ghost use Rattle.rbbi_scan.specs.Columns.{columns};
 ghost use Rattle.rbbi_scan.specs.Greatest.{AreGreatest};
 ghost use Rattle.rbbi_scan.specs.Scanning.{ScansOn, GoesOn, StopIs, IsFarIf};
 
-use crate::filling::{Filled, fill};
+use crate::filling::{Filled, fill, units_before};
 use crate::greatest::Greatest;
-use crate::reached::{Reached, Stop};
+use crate::reached::{Asked, Reached, Stop};
 use crate::source::{Decoded, Source};
 use crate::window::Window;
 use rbbi_table::{FrontPlaces, Table};
@@ -75,11 +75,13 @@ fn stop_of(
 /// Gives the boundaries in the window that begins where the last one was given.
 fn one_window<S: Source, L: Ledger>(
     table: &Table,
+    asked: Asked,
     source: &S,
     is_last: bool,
     chars: &mut [char],
     ends: &mut [u32],
     start: Reached,
+    starts: &mut [u64],
     places: &mut [u64],
     statuses: &mut [u32],
     greatest: &Greatest,
@@ -87,6 +89,7 @@ fn one_window<S: Source, L: Ledger>(
     steps: &mut Steps<L>,
 ) -> Turn
     requires within { start.resume ≤ length (S.units source.now) }
+    requires small { asked.origin + length (S.units source.now) < 2 ^ 64 }
     requires counted { start.count ≤ length places.old }
     requires room { length ends.old ≡ length chars.old }
     requires few { length chars.old ≤ most_characters }
@@ -96,8 +99,9 @@ fn one_window<S: Source, L: Ledger>(
     ensures fit { marks.new ≡ marks.old }
     ensures within { result.reached.resume ≤ length (S.units source.now) }
     ensures counted { result.reached.count ≤ length places.new }
-    ensures goes { GoesOn S.unit table.now is_last (length chars.old) (S.units source.now)
-        start (columns places.old statuses.old) (columns places.new statuses.new) result }
+    ensures goes { GoesOn S.unit table.now asked is_last (length chars.old) (S.units source.now)
+        start (columns starts.old places.old statuses.old)
+        (columns starts.new places.new statuses.new) result }
     ensures further { result.is_over ≡ false → start.resume < result.reached.resume }
 {
     let decoded = source.decode(start.resume, chars, ends);
@@ -107,22 +111,20 @@ fn one_window<S: Source, L: Ledger>(
     let ends_of = &ends[..decoded.count];
     let filled = fill(
         table,
+        asked,
         &window,
         ends_of,
         start.resume,
         is_last && end == len,
         start.count,
+        starts,
         places,
         statuses,
         greatest,
         marks,
         steps,
     );
-    let resume = if filled.at == 0 {
-        start.resume
-    } else {
-        start.resume + ends_of[filled.at as usize - 1] as usize
-    };
+    let resume = start.resume + units_before(ends_of, filled.at) as usize;
     let (room, size) = (places.len(), chars.len());
     let stop = stop_of(is_last, len, room, size, decoded, filled, end);
     turn_of(filled.count, resume, stop)
@@ -158,11 +160,13 @@ fn turn_of(count: usize, resume: usize, stop: Option<Stop>) -> Turn
 /// Gives the boundaries from a start on, by windows of one size.
 fn by_windows<S: Source, L: Ledger>(
     table: &Table,
+    asked: Asked,
     source: &S,
     is_last: bool,
     chars: &mut [char],
     ends: &mut [u32],
     start: Reached,
+    starts: &mut [u64],
     places: &mut [u64],
     statuses: &mut [u32],
     greatest: &Greatest,
@@ -170,6 +174,7 @@ fn by_windows<S: Source, L: Ledger>(
     steps: &mut Steps<L>,
 ) -> Reached
     requires within { start.resume ≤ length (S.units source.now) }
+    requires small { asked.origin + length (S.units source.now) < 2 ^ 64 }
     requires counted { start.count ≤ length places.old }
     requires room { length ends.old ≡ length chars.old }
     requires few { length chars.old ≤ most_characters }
@@ -179,8 +184,9 @@ fn by_windows<S: Source, L: Ledger>(
     ensures fit { marks.new ≡ marks.old }
     ensures within { result.resume ≤ length (S.units source.now) }
     ensures counted { result.count ≤ length places.new }
-    ensures scans { ScansOn S.unit table.now is_last (length chars.old) (S.units source.now)
-        start (columns places.old statuses.old) (columns places.new statuses.new) result }
+    ensures scans { ScansOn S.unit table.now asked is_last (length chars.old) (S.units source.now)
+        start (columns starts.old places.old statuses.old)
+        (columns starts.new places.new statuses.new) result }
 {
     let mut now = Turn {
         reached: start,
@@ -189,11 +195,13 @@ fn by_windows<S: Source, L: Ledger>(
     while !now.is_over {
         now = one_window(
             table,
+            asked,
             source,
             is_last,
             chars,
             ends,
             now.reached,
+            starts,
             places,
             statuses,
             greatest,
@@ -208,10 +216,12 @@ fn by_windows<S: Source, L: Ledger>(
 fn by_wide_windows<S: Source, L: Ledger>(
     alloc: Global,
     table: &Table,
+    asked: Asked,
     source: &S,
     is_last: bool,
     size: usize,
     start: Reached,
+    starts: &mut [u64],
     places: &mut [u64],
     statuses: &mut [u32],
     greatest: &Greatest,
@@ -219,6 +229,7 @@ fn by_wide_windows<S: Source, L: Ledger>(
     steps: &mut Steps<L>,
 ) -> Reached
     requires within { start.resume ≤ length (S.units source.now) }
+    requires small { asked.origin + length (S.units source.now) < 2 ^ 64 }
     requires counted { start.count ≤ length places.old }
     requires few { size ≤ most_characters }
     requires some { 0 < size }
@@ -227,8 +238,9 @@ fn by_wide_windows<S: Source, L: Ledger>(
     ensures fit { marks.new ≡ marks.old }
     ensures within { result.resume ≤ length (S.units source.now) }
     ensures counted { result.count ≤ length places.new }
-    ensures scans { ScansOn S.unit table.now is_last size (S.units source.now)
-        start (columns places.old statuses.old) (columns places.new statuses.new) result }
+    ensures scans { ScansOn S.unit table.now asked is_last size (S.units source.now)
+        start (columns starts.old places.old statuses.old)
+        (columns starts.new places.new statuses.new) result }
 {
     let memory = Reached {
         stop: Stop::Memory,
@@ -241,8 +253,8 @@ fn by_wide_windows<S: Source, L: Ledger>(
         return memory;
     };
     by_windows(
-        table, source, is_last, &mut chars, &mut ends, start, places, statuses, greatest, marks,
-        steps,
+        table, asked, source, is_last, &mut chars, &mut ends, start, starts, places, statuses,
+        greatest, marks, steps,
     )
 }
 
@@ -258,19 +270,22 @@ fn is_far(stop: Stop) -> bool
 pub(crate) fn scan<S: Source, L: Ledger>(
     alloc: Global,
     table: &Table,
+    asked: Asked,
     source: &S,
     from: usize,
     is_last: bool,
+    starts: &mut [u64],
     places: &mut [u64],
     statuses: &mut [u32],
     steps: &mut Steps<L>,
 ) -> Reached
     requires within { from ≤ length (S.units source.now) }
+    requires small { asked.origin + length (S.units source.now) < 2 ^ 64 }
     ensures within { result.resume ≤ length (S.units source.now) }
     ensures counted { result.count ≤ length places.new }
-    ensures scans { (stop : Stop) → ScansOn S.unit table.now is_last most_characters (S.units source.now)
-        (record { count = 0; resume = from; stop = stop }) (columns places.old statuses.old)
-        (columns places.new statuses.new) result }
+    ensures scans { (stop : Stop) → ScansOn S.unit table.now asked is_last most_characters (S.units source.now)
+        (record { count = 0; resume = from; stop = stop }) (columns starts.old places.old statuses.old)
+        (columns starts.new places.new statuses.new) result }
 {
     let start = Reached {
         count: 0,
@@ -284,15 +299,15 @@ pub(crate) fn scan<S: Source, L: Ledger>(
     let mut chars = ['\0'; NEAR];
     let mut ends = [0; NEAR];
     let mut now = by_windows(
-        table, source, is_last, &mut chars, &mut ends, start, places, statuses, &greatest,
-        &mut marks, steps,
+        table, asked, source, is_last, &mut chars, &mut ends, start, starts, places, statuses,
+        &greatest, &mut marks, steps,
     );
     let mut size = NEAR;
     while size < MOST && is_far(now.stop) {
         size = (size * 4).min(MOST);
         now = by_wide_windows(
-            alloc, table, source, is_last, size, now, places, statuses, &greatest, &mut marks,
-            steps,
+            alloc, table, asked, source, is_last, size, now, starts, places, statuses, &greatest,
+            &mut marks, steps,
         );
     }
     now

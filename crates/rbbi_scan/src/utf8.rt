@@ -1,5 +1,6 @@
 //! Texts in UTF-8.
-ghost use Rattle.std.specs.Prelude.{◌≡◌, ◌+◌, ◌<◌, ◌≤◌, length, take, drop, IsUtf8};
+ghost use Rattle.std.specs.Prelude.{◌≡◌, ◌+◌, ◌<◌, ◌≤◌, length, take, drop, IsTrue, IsUtf8};
+ghost use Rattle.std.specs.Str.{IsAscii};
 ghost use Rattle.rbbi_model.specs.declared.unit.Unit.TheVariants.{Utf8};
 ghost use Rattle.rbbi_model.specs.Words.{most_characters};
 ghost use Rattle.rbbi_scan.specs.Spelled.{BeginWithNone};
@@ -7,10 +8,27 @@ ghost use Rattle.rbbi_scan.specs.Decoded.{IsDecoded};
 
 use crate::source::{Decoded, Source};
 
+/// So many bytes are decoded at once where all are ASCII.
+const BLOCK: usize = 64;
+
+/// So many bytes are checked and decoded where some aren't, before it is asked again.
+const CHECKED: usize = 256;
+
 /// The bytes of a text.
 #[derive(Drop)]
 pub(crate) struct Utf8Text<'a> {
     pub(crate) bytes: &'a [u8],
+}
+
+/// Whether all bytes are ASCII. It reads them all, so that many are compared at once.
+fn is_ascii(bytes: &[u8]) -> bool
+    ensures { IsTrue result → IsAscii bytes.now }
+{
+    let mut greatest = 0u8;
+    for byte in bytes {
+        greatest = greatest.max(*byte);
+    }
+    greatest < 128
 }
 
 /// The text of so many bytes.
@@ -34,7 +52,35 @@ fn front_of(bytes: &[u8], most: usize) -> &str
     }
 }
 
-/// Decodes a text behind what was decoded, as far as there is room.
+/// Decodes so many bytes after what was decoded, which are ASCII.
+fn decode_ascii(
+    bytes: &[u8],
+    len: usize,
+    chars: &mut [char],
+    ends: &mut [u32],
+    decoded: Decoded,
+) -> Decoded
+    requires room { length ends.old ≡ length chars.old }
+    requires few { length chars.old ≤ most_characters }
+    requires decoded { IsDecoded Utf8 bytes.now chars.old ends.old decoded.count decoded.used }
+    requires fit { decoded.count + len ≤ length chars.old }
+    requires within { decoded.used + len ≤ length bytes.now }
+    requires ascii { IsAscii (take len (drop decoded.used bytes.now)) }
+    ensures decoded { IsDecoded Utf8 bytes.now chars.new ends.new result.count result.used }
+    ensures progress { result.used ≡ decoded.used + len }
+{
+    let (count, used) = (decoded.count, decoded.used);
+    for k in 0..len {
+        chars[count + k] = bytes[used + k] as char;
+        ends[count + k] = (used + k + 1) as u32;
+    }
+    Decoded {
+        count: count + len,
+        used: used + len,
+    }
+}
+
+/// Decodes a text after what was decoded, as far as there is room.
 fn decode_text(
     bytes: &[u8],
     text: &str,
@@ -79,8 +125,14 @@ impl Source for Utf8Text<'_> {
     fn decode(&self, from: usize, chars: &mut [char], ends: &mut [u32]) -> Decoded {
         let bytes = &self.bytes[from..];
         let mut decoded = Decoded::NONE;
-        while decoded.count < chars.len() {
-            let text = front_of(&bytes[decoded.used..], chars.len() - decoded.count);
+        while decoded.count < chars.len() && decoded.used < bytes.len() {
+            let rest = &bytes[decoded.used..];
+            let len = BLOCK.min(rest.len()).min(chars.len() - decoded.count);
+            if is_ascii(&rest[..len]) {
+                decoded = decode_ascii(bytes, len, chars, ends, decoded);
+                continue;
+            }
+            let text = front_of(rest, CHECKED);
             if text.is_empty() {
                 return decoded;
             }

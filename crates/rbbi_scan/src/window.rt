@@ -1,6 +1,7 @@
 //! Characters that were decoded, as a text of their own.
-ghost use Rattle.std.specs.Prelude.{◌≡◌, ◌≤◌, length};
+ghost use Rattle.std.specs.Prelude.{◌≡◌, ◌||◌, ◌≤◌, length, not, slice_range};
 ghost use Rattle.rbbi_model.specs.Words.{IsText, most_characters};
+ghost use Rattle.rbbi_scan.specs.Segments as spec;
 
 use rbbi_text::{Chars, Steps};
 use std::marker::Model;
@@ -32,6 +33,23 @@ impl<'a> Window<'a> {
     {
         Window { items }
     }
+
+    /// Whether the segment from one place to another is asked for: words alone may be.
+    #[inline(always)]
+    pub(crate) fn is_kept(&self, only_words: bool, start: u32, end: u32) -> bool
+        requires order { start ≤ end }
+        requires within { end ≤ length self.now }
+        ensures { result ≡ (not only_words || spec.is_word (slice_range self.now start end)) }
+    {
+        !only_words || is_word(&self.items[start as usize..end as usize])
+    }
+}
+
+/// Whether a letter or a digit is one of the characters.
+fn is_word(characters: &[char]) -> bool
+    ensures { result ≡ spec.is_word characters.now }
+{
+    characters.iter().any(|c| c.is_alphanumeric())
 }
 
 impl Chars for Window<'_> {

@@ -8,8 +8,8 @@ invariant-loop-at g l = record {
   inside : l.at ≤ length l.window;
   room : l.count ≤ length l.places;
   fit : l.marks ≡ l.initial.marks;
-  filled : FillsOn l.table l.window l.ends l.base l.is_final l.fn.count (columns l.fn.places l.fn.statuses) (columns l.places l.statuses)
-      (record { at = l.at; count = l.count });
+  filled : FillsOn l.table l.asked l.window l.ends l.base l.is_final l.fn.count (columns l.fn.starts l.fn.places l.fn.statuses)
+      (columns l.starts l.places l.statuses) (record { at = l.at; count = l.count });
 }
 
 abbrev pub decreases-loop-at : goal.decreases-loop-at

@@ -8,8 +8,8 @@ invariant-loop-now g l = record {
   within : l.now.reached.resume ≤ length (g.S.Source.units l.source);
   counted : l.now.reached.count ≤ length l.places;
   fit : l.marks ≡ l.initial.marks;
-  goes : GoesOn g.S.Source.unit l.table l.is_last (length l.fn.chars) (g.S.Source.units l.source) l.fn.start (columns l.fn.places l.fn.statuses)
-      (columns l.places l.statuses) l.now;
+  goes : GoesOn g.S.Source.unit l.table l.asked l.is_last (length l.fn.chars) (g.S.Source.units l.source) l.fn.start (columns l.fn.starts l.fn.places l.fn.statuses)
+      (columns l.starts l.places l.statuses) l.now;
 }
 
 abbrev pub decreases-loop-now : goal.decreases-loop-now

@@ -5,11 +5,11 @@ use Rattle.rbbi_model.specs.Units.{offset_of}
 use Rattle.rbbi_scan.specs.Columns.{columns}
 use Rattle.rbbi_scan.specs.Filling.{FillsOn, FillsAll}
 use Rattle.rbbi_scan.specs.Scanning.{StopIs, GoesOn}
-use Rattle.rbbi_scan.proofs.Standing.{end_at, end_of_place, offset_far}
+use Rattle.rbbi_scan.proofs.Standing.{end_at, units_at, units_low, offset_far}
 use Rattle.rbbi_scan.proofs.Stopping.{goes_one, goes_further}
 use Rattle.rbbi_scan.proofs.scanning.one_window.Given.{Over}
 use Rattle.rbbi_scan.proofs.scanning.one_window.Goals as goal
-use Rattle.rbbi_scan.proofs.scanning.one_window.Goals.{then-is_last, else-is_last, then-filled-eq0, else-filled-eq0}
+use Rattle.rbbi_scan.proofs.scanning.one_window.Goals.{then-is_last, else-is_last}
 
 pub fill-filled-requires-clause-small : goal.fill-filled-requires-clause-small
 fill-filled-requires-clause-small g c =
@@ -20,67 +20,45 @@ fill-filled-requires-clause-small g c =
     c.decode-decoded.result.count c.decode-decoded.result.used c.args.start.resume c.decode-decoded.ensures.decoded c.requires.within k low in
     omega (arith, within, c.len-len.ensures)
 
+pub fill-filled-requires-clause-low : goal.fill-filled-requires-clause-low
+fill-filled-requires-clause-low g c = omega (arith, c.requires.within, c.requires.small)
+
 pub overflow_add-resume : goal.overflow_add-resume
 overflow_add-resume g c =
-    let at : ℕ = c.fill-filled.result.at in
-    let low : at - 1 < c.decode-decoded.result.count =
     omega (
       arith,
-      c.fill-filled.ensures.within,
-      c.if-filled-eq0.false,
-      ap length c.of-window.ensures,
-      length-take c.decode-decoded.result.count c.decode-decoded.new.chars,
-    ) in
-    let within = end_at g.S.Source.unit (g.S.Source.units c.args.source.now) c.decode-decoded.new.chars c.decode-decoded.new.ends
-    c.decode-decoded.result.count c.decode-decoded.result.used c.args.start.resume c.decode-decoded.ensures.decoded c.requires.within (at - 1) low in
-    omega (arith, within, c.len-len.ensures)
+      units_low g.S.Source.unit (drop c.args.start.resume (g.S.Source.units c.args.source.now)) c.decode-decoded.new.chars c.decode-decoded.new.ends
+          c.decode-decoded.result.count c.decode-decoded.result.used c.decode-decoded.ensures.decoded c.fill-filled.result.at
+          (subst (λ w. c.fill-filled.result.at ≤ length w) c.of-window.ensures c.fill-filled.ensures.within) c.units_before.result c.units_before.ensures,
+      c.decode-decoded.ensures.decoded.within,
+      length-drop c.args.start.resume (g.S.Source.units c.args.source.now),
+      c.requires.within,
+      c.len-len.ensures,
+    )
+
+pub returns-clause-within : goal.returns-clause-within
+returns-clause-within g c =
+    omega (
+      arith,
+      c.turn_of.ensures.resume,
+      units_low g.S.Source.unit (drop c.args.start.resume (g.S.Source.units c.args.source.now)) c.decode-decoded.new.chars c.decode-decoded.new.ends
+          c.decode-decoded.result.count c.decode-decoded.result.used c.decode-decoded.ensures.decoded c.fill-filled.result.at
+          (subst (λ w. c.fill-filled.result.at ≤ length w) c.of-window.ensures c.fill-filled.ensures.within) c.units_before.result c.units_before.ensures,
+      c.decode-decoded.ensures.decoded.within,
+      length-drop c.args.start.resume (g.S.Source.units c.args.source.now),
+      c.requires.within,
+    )
 
 -- where the window has gone to lies so far on
 resume_at : (g : Over) (c : goal.After-turn_of g) →
     c.turn_of.result.reached.resume
     ≡ c.args.start.resume + offset_of g.S.Source.unit (take c.decode-decoded.result.count c.decode-decoded.new.chars) c.fill-filled.result.at
 resume_at g c =
-    let at : ℕ = c.fill-filled.result.at in
-    let w : List ℕ = take c.decode-decoded.result.count c.decode-decoded.new.chars in
-    let inside : at ≤ length w = omega (arith, c.fill-filled.ensures.within, ap length c.of-window.ensures) in
     c.turn_of.ensures.resume
-    ∙ elim c.if-filled-eq0.branch [
-      | then-filled-eq0 b ↦
-          let none : offset_of g.S.Source.unit w at ≡ 0 = ap (offset_of g.S.Source.unit w) b.if-filled-eq0.true in
-          omega (arith, b.resume-is, none)
-      | else-filled-eq0 b ↦
-          omega (
-            arith,
-            b.resume-is,
-            end_of_place g.S.Source.unit (drop c.args.start.resume (g.S.Source.units c.args.source.now)) c.decode-decoded.new.chars
-                c.decode-decoded.new.ends c.decode-decoded.result.count c.decode-decoded.result.used c.decode-decoded.ensures.decoded at
-                (omega (arith, b.if-filled-eq0.false)) inside,
-          )
-    ]
-
-pub returns-clause-within : goal.returns-clause-within
-returns-clause-within g c =
-    let at : ℕ = c.fill-filled.result.at in
-    elim c.if-filled-eq0.branch [
-      | then-filled-eq0 b ↦ omega (arith, b.resume-is, c.requires.within, c.turn_of.ensures.resume)
-      | else-filled-eq0 b ↦
-          let low : at - 1 < c.decode-decoded.result.count =
-          omega (
-            arith,
-            c.fill-filled.ensures.within,
-            b.if-filled-eq0.false,
-            ap length c.of-window.ensures,
-            length-take c.decode-decoded.result.count c.decode-decoded.new.chars,
-          ) in
-          omega (
-            arith,
-            b.resume-is,
-            c.turn_of.ensures.resume,
-            end_at g.S.Source.unit (g.S.Source.units c.args.source.now) c.decode-decoded.new.chars c.decode-decoded.new.ends
-                c.decode-decoded.result.count c.decode-decoded.result.used c.args.start.resume c.decode-decoded.ensures.decoded c.requires.within
-                (at - 1) low,
-          )
-    ]
+    ∙ ap (λ n. c.args.start.resume + n)
+    (units_at g.S.Source.unit (drop c.args.start.resume (g.S.Source.units c.args.source.now)) c.decode-decoded.new.chars c.decode-decoded.new.ends
+    c.decode-decoded.result.count c.decode-decoded.result.used c.decode-decoded.ensures.decoded c.fill-filled.result.at
+    (subst (λ w. c.fill-filled.result.at ≤ length w) c.of-window.ensures c.fill-filled.ensures.within) c.units_before.result c.units_before.ensures)
 
 -- why nothing more is found
 why : (g : Over) (c : goal.After-turn_of g) →
@@ -115,18 +93,18 @@ returns-clause-goes g c =
     let ends : List ℕ = c.decode-decoded.new.ends in
     let count : ℕ = c.decode-decoded.result.count in
     let filled = c.fill-filled.result in
-    let before = columns c.args.places.now c.args.statuses.now in
-    let after = columns c.fill-filled.new.places c.fill-filled.new.statuses in
+    let before = columns c.args.starts.now c.args.places.now c.args.statuses.now in
+    let after = columns c.fill-filled.new.starts c.fill-filled.new.places c.fill-filled.new.statuses in
     let window = c.of-window.ensures in
-    let fills : FillsOn c.args.table.now (take count chars) (take count ends) c.args.start.resume c.if-is_last.fill c.args.start.count before after filled =
-    subst (λ w. FillsOn c.args.table.now w (take count ends) c.args.start.resume c.if-is_last.fill c.args.start.count before after filled) window
+    let fills : FillsOn c.args.table.now c.args.asked (take count chars) (take count ends) c.args.start.resume c.if-is_last.fill c.args.start.count before after filled =
+    subst (λ w. FillsOn c.args.table.now c.args.asked w (take count ends) c.args.start.resume c.if-is_last.fill c.args.start.count before after filled) window
     c.fill-filled.ensures.filled in
     let fills_all : FillsAll c.args.table.now (take count chars) c.if-is_last.fill (length c.args.places.now) filled =
     subst (λ w. FillsAll c.args.table.now w c.if-is_last.fill (length c.args.places.now) filled) window c.fill-filled.ensures.all in
     let inside : filled.at ≤ length (take count chars) = subst (λ w. filled.at ≤ length w) window c.fill-filled.ensures.within in
     let room : length chars ≡ length c.args.chars.now = c.decode-decoded.auto.chars in
-    subst (λ n. GoesOn unit c.args.table.now c.args.is_last n units c.args.start before after c.turn_of.result) room
-    (goes_one unit c.args.table.now units c.args.is_last c.args.start chars ends c.decode-decoded.result filled before after c.if-is_last.fill
+    subst (λ n. GoesOn unit c.args.table.now c.args.asked c.args.is_last n units c.args.start before after c.turn_of.result) room
+    (goes_one unit c.args.table.now c.args.asked units c.args.is_last c.args.start chars ends c.decode-decoded.result filled before after c.if-is_last.fill
     c.requires.within c.decode-decoded.ensures.decoded c.decode-decoded.ensures.all (final g c) (omega (arith, c.requires.some, room)) inside fills fills_all
     c.stop_of-stop.result c.turn_of.result (why g c) c.turn_of.ensures.count (resume_at g c) c.turn_of.ensures.stop)
 

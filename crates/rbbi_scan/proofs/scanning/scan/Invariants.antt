@@ -12,8 +12,8 @@ invariant-loop-size g l = record {
   within : l.now.resume ≤ length (g.S.Source.units l.source);
   counted : l.now.count ≤ length l.places;
   fit : l.marks ≡ l.initial.marks;
-  scans : ScansOn g.S.Source.unit l.table l.is_last l.size (g.S.Source.units l.source) (record { count = 0; resume = l.from; stop = Memory })
-      (columns l.fn.places l.fn.statuses) (columns l.places l.statuses) l.now;
+  scans : ScansOn g.S.Source.unit l.table l.asked l.is_last l.size (g.S.Source.units l.source) (record { count = 0; resume = l.from; stop = Memory })
+      (columns l.fn.starts l.fn.places l.fn.statuses) (columns l.starts l.places l.statuses) l.now;
 }
 
 abbrev pub decreases-loop-size : goal.decreases-loop-size
