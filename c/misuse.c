@@ -1,6 +1,7 @@
 /* Misuse that can be seen is an answer, and leaves what there is: the status is 1 where one differs. */
 #include <rbbi.h>
 #include <stdio.h>
+#include <stdlib.h>
 #include <string.h>
 
 static int wrong;
@@ -52,6 +53,12 @@ int main(void) {
     IS(fault.byte == 3, 1);
     IS(strcmp(rbbi_fault_message(&fault), "no name follows"), 0);
     IS(strcmp(rbbi_fault_message(NULL), "this is no fault of rbbi"), 0);
+    rbbi_fault *unended = malloc(sizeof *unended);
+    if (unended) {
+        memset(unended, 0xFF, sizeof *unended);
+        IS(strcmp(rbbi_fault_message(unended), "this is no fault of rbbi"), 0);
+        free(unended);
+    }
     const char *marked = "\xef\xbb\xbf\xc3\xa4;\n\xc3\xa4$;";
     IS(rbbi_table_compile(&table, NULL, marked, 11, 0, &fault), RBBI_FAULT);
     IS(fault.line == 2 && fault.column == 2 && fault.byte == 9, 1);

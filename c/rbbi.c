@@ -3,8 +3,8 @@
  *
  * Contracts see a reference that C passes as one that isn't NULL, and a handle as one that nobody else
  * uses during the call. So what is done here, and nothing else: pointers that are NULL are refused,
- * threads that pass one table's handle take turns, and the byte of a fault in rules is counted. A
- * `Memory` takes no bytes, and is passed as nothing.
+ * threads that pass one table's handle take turns, also while the process forks, and the byte of a
+ * fault in rules is counted. A `Memory` takes no bytes, and is passed as nothing.
  */
 #include "rbbi.h"
 
@@ -107,7 +107,7 @@ const char *rbbi_message(int answer) {
 
 const char *rbbi_fault_message(const rbbi_fault *fault) {
     const struct rbbi_built_in_fault *found = rbbi_built_in_faults;
-    while (fault && found->name && strcmp(found->name, fault->name) != 0) {
+    while (fault && found->name && strncmp(found->name, fault->name, sizeof fault->name) != 0) {
         found++;
     }
     return fault && found->name ? found->sentence : "this is no fault of rbbi";
@@ -121,13 +121,29 @@ const char *rbbi_unicode_version(void) {
     return rbbi_built_in_unicode;
 }
 
+static pthread_mutex_t turn = PTHREAD_MUTEX_INITIALIZER;
+
+static void begin_turn(void) {
+    pthread_mutex_lock(&turn);
+}
+
+static void end_turn(void) {
+    pthread_mutex_unlock(&turn);
+}
+
+/* A process forks between two turns. In the child a turn of another thread would have no end. */
+static void fork_between_turns(void) {
+    pthread_atfork(begin_turn, end_turn, end_turn);
+}
+
 /* Makes `other` one more handle of the table. The proved side takes the table out of its handle for
    this, and puts it back; meanwhile no other thread may look into the handle. */
 static int share(rbbi_table *table, rbbi_table *other) {
-    static pthread_mutex_t turn = PTHREAD_MUTEX_INITIALIZER;
-    pthread_mutex_lock(&turn);
+    static pthread_once_t once = PTHREAD_ONCE_INIT;
+    pthread_once(&once, fork_between_turns);
+    begin_turn();
     uint32_t answer = rbbi_c_table_share(table, other);
-    pthread_mutex_unlock(&turn);
+    end_turn();
     return (int)answer;
 }
 

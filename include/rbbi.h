@@ -25,7 +25,8 @@
  * calls need their handles to themselves: one thread at a time uses a session, a tally or a list
  * of property files, and no thread uses a handle while another opens or closes it. Sessions and
  * tallies of one table may be used side by side. Handles may move from thread to thread, under a
- * lock or when a thread starts or ends.
+ * lock or when a thread starts or ends. A process may fork while other threads take turns: in the
+ * child a table's handle is as usable as before.
  *
  * UNITS. All places and lengths of a session or a tally count the unit that it was opened in:
  * bytes of UTF-8, 16-bit units of UTF-16, or characters (code points). They begin at 0. A text has
@@ -159,10 +160,12 @@ int rbbi_table_compile(rbbi_table *table, rbbi_files *files, const void *rules, 
    `fault` may be NULL. A damaged file is refused or is a valid table. */
 int rbbi_table_load(rbbi_table *table, const void *bytes, size_t length, rbbi_fault *fault);
 
-/* Loads a built-in table: "grapheme", "word" or "sentence" of UAX #29, or "line" of UAX #14, over
-   Unicode 18.0. Statuses: of words, by the character that ends one, 100 for a digit, 200 for a
-   letter, 300 for kana, 400 for an ideograph, else 0; of sentences 0 if a terminator ends one, else
-   100; of lines 100 if the line must be broken there, else 0; of graphemes 0. */
+/* Loads a built-in table: "grapheme", "word" or "sentence" by UAX #29 of Unicode 18.0, or "line" by
+   the rules of UAX #14 of 17.0 over the data of 18.0. Statuses: of a word, that of its last
+   character that has a kind, as marks and connectors have none: 100 a digit, 200 a letter, 300
+   kana, 400 an ideograph, 0 any other; of a sentence 0 if a terminator ends it, else 100; of a line
+   100 if it ends in a character after which it must be broken, such as LF, else 0, also at the end
+   of the text; of a grapheme 0. */
 int rbbi_table_named(rbbi_table *table, const char *name);
 
 /* Makes `other` another handle of the table. */
@@ -213,7 +216,9 @@ int rbbi_session_tailor(rbbi_session *session, const void *pairs, size_t length,
                         rbbi_fault *fault);
 
 /* Replaces `remove` units from `at` on by the `length` bytes of UTF-8 at `insert`, and sets the
-   cursor to 0. The cost depends on what the edit touches, not on the length of the text. */
+   cursor to 0. What it searches depends on what the edit touches alone, but where the later pieces
+   of the text begin is counted again: measured, an insertion near the start takes 0.15 us in 20,000
+   characters, 0.7 us in 8,000,000 and 1.6 us in 16,000,000. */
 int rbbi_session_replace(rbbi_session *session, uint32_t at, uint32_t remove, const char *insert,
                          size_t length);
 
@@ -307,7 +312,8 @@ int rbbi_tally_open(rbbi_tally *tally, rbbi_table *table, const char *text, size
 void rbbi_tally_close(rbbi_tally *tally);
 
 /* Replaces `remove` units from `at` on by the `length` bytes of UTF-8 at `insert`, and counts again
-   what that touches. */
+   what that touches. Before anything changes it takes 8 bytes for each character after the place,
+   and keeps them for later edits: 134 MB for an edit at the start of 16,777,216 characters. */
 int rbbi_tally_replace(rbbi_tally *tally, uint32_t at, uint32_t remove, const char *insert,
                        size_t length);
 

@@ -33,7 +33,7 @@ def counted(table, name):
         text = file.read()
     with table_of(table).session(text) as session:
         words = sum(1 for segment in session if segment.status)
-        return os.path.basename(name), len(session), words
+        return os.path.basename(name), session.length(), words
 
 
 def mapped(table, names, workers):

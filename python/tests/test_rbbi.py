@@ -1,11 +1,14 @@
 """Tests of the package as it is installed: `python3 -m unittest discover python/tests`, or pytest."""
+import copy
 import ctypes
 import inspect
+import pickle
 import random
 import sys
 import threading
 import unittest
 from array import array
+from concurrent.futures import ProcessPoolExecutor
 
 import rbbi
 from rbbi import Answer, Error, Fault, LoneSurrogate, Segment, Table, Unit
@@ -37,7 +40,7 @@ class Sessions(unittest.TestCase):
         for unit, places in [(Unit.CHARS, [1, 2, 3]), (Unit.UTF16, [1, 3, 4]), (Unit.UTF8, [2, 6, 7])]:
             with self.table.session(text, unit) as session:
                 self.assertEqual([segment.end for segment in session], places)
-                self.assertEqual(len(session), places[-1])
+                self.assertEqual(session.length(), places[-1])
 
     def test_a_tally_counts_while_the_text_is_edited(self):
         with self.table.tally("can't 32 \u00e4", Unit.UTF8) as tally:
@@ -103,7 +106,7 @@ class Sessions(unittest.TestCase):
     def test_utf16_is_taken_and_lone_surrogates_are_refused(self):
         units = array('H', 'a\U0001f600b'.encode(f'utf-16-{sys.byteorder[0]}e'))
         with self.table.session_utf16(units) as session:
-            self.assertEqual((len(session), session.text()), (4, 'a\U0001f600b'))
+            self.assertEqual((session.length(), session.text()), (4, 'a\U0001f600b'))
             session.replace_utf16(1, 2, array('H', [0x63]))
             self.assertEqual(session.text(), 'acb')
             with self.assertRaises(LoneSurrogate) as caught:
@@ -114,6 +117,20 @@ class Sessions(unittest.TestCase):
         self.assertEqual(caught.exception.at, 2)
         with self.assertRaises(ValueError):
             self.table.session_utf16(b'abc')
+
+    def test_utf16_is_a_buffer_of_bytes_or_of_units(self):
+        units = array('H', [0x61, 0x62])
+        for buffer in (units, units.tobytes(), bytearray(units.tobytes()), memoryview(units),
+                       (ctypes.c_uint16 * 2)(0x61, 0x62)):
+            with self.table.session_utf16(buffer) as session:
+                self.assertEqual(session.text(), 'ab')
+        with self.table.session('x') as session:
+            for code in 'hiIlLqQfd':
+                with self.assertRaises(TypeError):
+                    self.table.session_utf16(array(code, [0x61, 0x62]))
+                with self.assertRaises(TypeError):
+                    session.replace_utf16(0, 0, array(code, [0x61]))
+            self.assertEqual(session.text(), 'x')
 
     def test_edits_answer_as_a_new_session_over_the_new_text(self):
         draw = random.Random(1)
@@ -144,7 +161,7 @@ class Sessions(unittest.TestCase):
             session.suppress('# titles\nMr.\n')
             self.assertEqual([segment.end for segment in session], [15, 22])
             session.replace(15, 2, 'We\U0001f98a')
-            self.assertEqual(([segment.end for segment in session], len(session)), ([15, 23], 23))
+            self.assertEqual(([segment.end for segment in session], session.length()), ([15, 23], 23))
             for call in (session.fork, session.boundaries, lambda: session.segment(0)):
                 with self.assertRaises(Error) as refused:
                     call()
@@ -173,7 +190,7 @@ class Sessions(unittest.TestCase):
                 with self.assertRaises(Error) as caught:
                     session.replace(at, remove, 'x')
                 self.assertEqual(caught.exception.answer, answer)
-            self.assertEqual(len(session), 3)
+            self.assertEqual(session.length(), 3)
 
     def test_numbers_past_32_bits_and_texts_that_are_not_utf8_are_refused(self):
         with self.table.session('ab') as session:
@@ -185,6 +202,24 @@ class Sessions(unittest.TestCase):
         with self.assertRaises(Error) as caught:
             self.table.session(b'\xff')
         self.assertEqual(caught.exception.answer, Answer.NOT_UTF8)
+
+    def test_a_unit_is_one_of_three(self):
+        for unit in (-1, 3, 2 ** 32, 2 ** 32 + 1):
+            for opened in (lambda: self.table.session('ab', unit),
+                           lambda: self.table.session_utf16(b'a\0', unit),
+                           lambda: self.table.tally('ab', unit)):
+                with self.assertRaises(Error) as caught:
+                    opened()
+                self.assertEqual(caught.exception.answer, Answer.UNIT)
+        with self.table.session('\u00e4', 1) as session:
+            self.assertEqual(session.length(), 2)
+
+    def test_a_session_has_a_length_in_units_and_no_number_of_segments(self):
+        with self.table.session('', Unit.UTF16) as session:
+            self.assertEqual((session.length(), list(session)), (0, []))
+            self.assertTrue(session)
+            with self.assertRaises(TypeError):
+                len(session)
 
     def test_a_session_outlives_its_table_and_is_closed_once(self):
         with Table.named('word') as table:
@@ -215,6 +250,10 @@ class Tables(unittest.TestCase):
         with self.assertRaises(Error) as caught:
             Table.named('words')
         self.assertEqual(caught.exception.answer, Answer.NAME)
+        for name in ('word\0', 'word\0x', '\0word'):
+            with self.assertRaises(Error) as caught:
+                Table.named(name)
+            self.assertEqual(caught.exception.answer, Answer.NAME)
 
     def test_a_fault_has_a_name_and_a_place(self):
         with self.assertRaises(Fault) as caught:
@@ -236,6 +275,52 @@ class Tables(unittest.TestCase):
         self.assertEqual((caught.exception.name, caught.exception.line), ('BadRow', 2))
         with self.assertRaises(ValueError):
             Table.compile('a;', [('X\0', rows)])
+
+    def test_dictionary_is_ignored_if_the_word_is_true(self):
+        rules = '$dictionary = [a]; a;'
+        with self.assertRaises(Fault):
+            Table.compile(rules)
+        for true in (True, 1, 2 ** 32):
+            Table.compile(rules, ignore_dictionary=true).close()
+
+
+def refused(call):
+    """The error that a call raises."""
+    with unittest.TestCase().assertRaises(Error) as caught:
+        call()
+    return caught.exception
+
+
+class Errors(unittest.TestCase):
+    """Errors go from process to process."""
+
+    def errors(self):
+        with Table.compile(RULES) as table, table.session('ab') as session:
+            return [refused(lambda: session.replace(1, 2, '')),
+                    refused(lambda: Table.named('words')),
+                    refused(lambda: Table.compile('a;\n\u00e4 $;')),
+                    refused(lambda: Table.load(b'RBBI')),
+                    refused(lambda: session.suppress('a\n b\n')),
+                    refused(lambda: table.session_utf16(array('H', [0x61, 0xd83d]))),
+                    Error(Answer.MEMORY, 'of a caller')]
+
+    def test_each_survives_pickling_and_copying(self):
+        for error in self.errors():
+            error.told = 'by the caller'
+            for protocol in range(pickle.HIGHEST_PROTOCOL + 1):
+                self.assert_same(pickle.loads(pickle.dumps(error, protocol)), error)
+            self.assert_same(copy.copy(error), error)
+            self.assert_same(copy.deepcopy(error), error)
+
+    def assert_same(self, other, error):
+        self.assertIs(type(other), type(error))
+        self.assertEqual((str(other), vars(other)), (str(error), vars(error)))
+
+    def test_a_process_hands_one_back(self):
+        with ProcessPoolExecutor(1) as processes:
+            with self.assertRaises(Fault) as caught:
+                processes.submit(Table.compile, 'a;\n\u00e4 $;').result(60)
+        self.assertEqual((caught.exception.name, caught.exception.byte), ('BadName', 6))
 
 
 class Package(unittest.TestCase):

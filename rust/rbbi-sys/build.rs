@@ -1,8 +1,27 @@
 //! Finds librbbi.a, or has it built: in the folder RBBI_LIB_DIR; else, in the repository, as
 //! bin/build-c builds it; else, in what bin/install or bin/release made, in its folder lib.
 use std::env;
+use std::fs;
 use std::path::{Path, PathBuf};
 use std::process::Command;
+
+/// What the library is made of: the sources of the crates, and the glue in C. Cargo looks through
+/// whole folders, so the folder of a crate, in which things are built, isn't named itself.
+fn sources(top: &Path) -> Vec<PathBuf> {
+    let mut parts: Vec<PathBuf> = ["crates.txt", "c", "include", "bin/build-c"]
+        .map(|part| top.join(part))
+        .into();
+    for name in fs::read_dir(top.join("crates"))
+        .expect("crates/ can be read")
+        .flatten()
+    {
+        for part in ["src", "specs", "proofs"] {
+            parts.push(name.path().join(part));
+        }
+    }
+    parts.retain(|part| part.exists());
+    parts
+}
 
 fn folder() -> PathBuf {
     println!("cargo:rerun-if-env-changed=RBBI_LIB_DIR");
@@ -13,8 +32,8 @@ fn folder() -> PathBuf {
     let top = Path::new(&here).join("../..");
     let build = top.join("bin/build-c");
     if build.exists() {
-        for part in ["c", "include", "out/librbbi.a"] {
-            println!("cargo:rerun-if-changed={}", top.join(part).display());
+        for part in sources(&top) {
+            println!("cargo:rerun-if-changed={}", part.display());
         }
         let built = Command::new(&build)
             .status()

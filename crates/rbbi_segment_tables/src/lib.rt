@@ -36,7 +36,8 @@ pub fn graphemes() -> &'static [u8]
 /// The bytes of the table file for words (UAX #29).
 ///
 /// They spell a valid table. The boundaries of each text by it are exactly the places at which the
-/// annex breaks the text, each with the status of the word that ends there, by its last character.
+/// annex breaks the text, each with the status of the word that ends there: that of its last
+/// character that has a kind, so `a_` has the status of `a`.
 pub fn words() -> &'static [u8]
     ensures places { SpellBreaksBy result.now is_word_break }
     ensures statuses { SpellBoundaries result.now is_word_break word_status }

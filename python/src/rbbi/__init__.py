@@ -13,6 +13,7 @@ from __future__ import annotations
 
 import ctypes
 import enum
+import sys
 import threading
 from array import array
 from typing import (Any, Callable, ClassVar, Iterable, Iterator, NamedTuple, Optional, TypeVar,
@@ -78,9 +79,15 @@ def _bytes(text: Text) -> bytes:
     return text.encode() if isinstance(text, str) else text
 
 
+_UTF16 = ('B', 'b', 'c', 'H', '<H' if sys.byteorder == 'little' else '>H')
+"""The formats of a buffer of UTF-16: bytes, and numbers of 16 bits in this machine's byte order."""
+
+
 def _units(units: Any) -> tuple[Any, int]:
     """The 16-bit units of a buffer as C wants them, and how many there are."""
     view = memoryview(units)
+    if view.format.lstrip('@=') not in _UTF16:
+        raise TypeError(f'UTF-16 is a buffer of bytes or of the type code H, not {view.format}')
     if view.nbytes % 2:
         raise ValueError('UTF-16 has an even number of bytes')
     count = view.nbytes // 2
@@ -91,6 +98,14 @@ def _number(number: int) -> int:
     if not 0 <= number <= _MOST:
         raise ValueError('a place and a number are from 0 to 4294967295')
     return number
+
+
+def _unit(unit: Union[Unit, int]) -> Unit:
+    """The unit of a number; ctypes would take a number past 32 bits for another one."""
+    try:
+        return Unit(unit)
+    except ValueError:
+        raise Error(Answer.UNIT) from None
 
 
 _Self = TypeVar('_Self', bound='_Closing')
@@ -151,7 +166,7 @@ class Table(_Closing):
         rules, table, fault = _bytes(rules), cls(), CFault()
         with _Files(files) as list_of:
             checked(LIBRARY.rbbi_table_compile(table._ref, list_of._ref, rules, len(rules),
-                                               int(ignore_dictionary), ctypes.byref(fault)), fault)
+                                               bool(ignore_dictionary), ctypes.byref(fault)), fault)
         return table
 
     @classmethod
@@ -165,8 +180,10 @@ class Table(_Closing):
     @classmethod
     def named(cls, name: str) -> Table:
         """A table that is in the library: `grapheme`, `word`, `sentence` or `line`."""
+        if '\0' in name:  # where the name would end for C
+            raise Error(Answer.NAME)
         table = cls()
-        checked(LIBRARY.rbbi_table_named(table._ref, name.encode().split(b'\0')[0]))
+        checked(LIBRARY.rbbi_table_named(table._ref, name.encode()))
         return table
 
     def share(self) -> Table:
@@ -215,7 +232,7 @@ class Session(_Closing):
     def __init__(self, table: Table, text: Text, unit: Unit = Unit.CHARS) -> None:
         """Opens a session over a text. Raises `Error` where it has over 16,777,216 characters."""
         self._begin()
-        text = _bytes(text)
+        text, unit = _bytes(text), _unit(unit)
         with table._lock:
             checked(LIBRARY.rbbi_session_open(self._ref, table._ref, text, len(text), unit))
 
@@ -224,6 +241,7 @@ class Session(_Closing):
         """A session over a text in UTF-16."""
         (room, count), lone, session = _units(units), ctypes.c_uint32(), cls.__new__(cls)
         session._begin()
+        unit = _unit(unit)
         with table._lock:
             answer = LIBRARY.rbbi_session_open_utf16(session._ref, table._ref, room, count, unit,
                                                      ctypes.byref(lone))
@@ -330,7 +348,7 @@ class Session(_Closing):
         checked(answer)
         return list(room[:count.value])
 
-    def __len__(self) -> int:
+    def length(self) -> int:
         """The length of the text, in the unit."""
         return self._told(LIBRARY.rbbi_session_length)
 
@@ -373,7 +391,7 @@ class Session(_Closing):
         Raises `Error` where one of them is past the end or inside of a character, or `end` is before
         `start`.
         """
-        end = len(self) if end is None else end
+        end = self.length() if end is None else end
         call, length = LIBRARY.rbbi_session_text, ctypes.c_size_t()
         start, end = _number(start), _number(end)
         with self._lock:
@@ -457,7 +475,7 @@ class Tally(_Closing):
     def __init__(self, table: Table, text: Text, unit: Unit = Unit.CHARS) -> None:
         """Opens a tally. Raises `Error` where the text has over 16,777,216 characters."""
         super().__init__()
-        text = _bytes(text)
+        text, unit = _bytes(text), _unit(unit)
         with table._lock:
             checked(LIBRARY.rbbi_tally_open(self._ref, table._ref, text, len(text), unit))
 

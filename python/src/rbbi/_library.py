@@ -45,11 +45,22 @@ class CChange(ctypes.Structure):
 
 
 class Error(Exception):
-    """A call was refused; `answer` says why."""
+    """A call was refused; `answer` says why. Errors may be pickled, as between processes."""
+
+    answer: Answer
+    """The answer of the library."""
 
     def __init__(self, answer: Union[Answer, int], message: Optional[str] = None) -> None:
         super().__init__(message or LIBRARY.rbbi_message(answer).decode())
         self.answer = Answer(answer)
+
+    def __reduce__(self) -> tuple[Any, ...]:
+        return _again, (type(self), *self.args), vars(self)
+
+
+def _again(kind: type[Error], *message: Any) -> Error:
+    """An error of a kind with its message. What it has is set afterwards, so `__init__` isn't run."""
+    return kind.__new__(kind, *message)
 
 
 class Fault(Error):

@@ -10,7 +10,7 @@
 //! let ends: Vec<u32> = session.segments().map(|segment| segment.end).collect();
 //! assert_eq!(ends, [5, 6, 10, 11]);
 //! session.replace(3, 1, "no")?; // the user typed
-//! assert_eq!(session.segment(4).map(|word| word.end), Some(6));
+//! assert_eq!(session.segment(4)?.map(|word| word.end), Some(6));
 //! # Ok(())
 //! # }
 //! ```

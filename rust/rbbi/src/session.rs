@@ -1,6 +1,6 @@
 //! A text with a table and a cursor.
 use crate::error::{checked, checked_utf16, told, Error};
-use rbbi_sys::{rbbi_change, rbbi_handle, RBBI_FILTERED, RBBI_INIT, RBBI_OK, RBBI_ROOM};
+use rbbi_sys::{rbbi_change, rbbi_handle, RBBI_INIT, RBBI_OK, RBBI_ROOM};
 use std::ffi::c_int;
 
 /// What places, lengths and numbers of a session count.
@@ -93,8 +93,8 @@ impl Session {
 
     /// From now on no boundary is told before which an abbreviation stands, as `Mr.`. The cursor goes
     /// to 0. `abbreviations` is a file of them, one a line (docs/formats.md). From then on `fork`,
-    /// `replace_changed` and a second filter are refused, and `segment`, `boundaries` and
-    /// `boundaries_before` panic.
+    /// `replace_changed`, `segment`, `boundaries`, `boundaries_before` and a second filter refuse
+    /// `Filtered`.
     pub fn suppress(&mut self, abbreviations: &[u8]) -> Result<(), Error> {
         let (file, length) = (abbreviations.as_ptr().cast(), abbreviations.len());
         // SAFETY: the handle holds a session, and the file is live.
@@ -208,12 +208,7 @@ impl Session {
 
     /// The same edit, which also tells what it changed: the least range that has the edit in it and
     /// outside of which all boundaries are the old ones. This is what is to be drawn again.
-    pub fn replace_changed(
-        &mut self,
-        at: u32,
-        remove: u32,
-        insert: &str,
-    ) -> Result<Change, Error> {
+    pub fn replace_changed(&mut self, at: u32, remove: u32, insert: &str) -> Result<Change, Error> {
         let (text, length) = (insert.as_ptr().cast(), insert.len());
         let mut change = rbbi_change {
             from: 0,
@@ -271,27 +266,30 @@ impl Session {
     }
 
     /// The segment that holds the character after a place, as the word at an editor's cursor. None
-    /// at the end of the text and past it. The session's cursor stays. Panics where the session has a
-    /// filter.
-    pub fn segment(&mut self, place: u32) -> Option<Segment> {
+    /// at the end of the text and past it. The session's cursor stays.
+    ///
+    /// Refuses `Filtered` where the session has a filter.
+    pub fn segment(&mut self, place: u32) -> Result<Option<Segment>, Error> {
         let (mut start, mut end, mut status) = (0, 0, 0);
         // SAFETY: the handle holds a session, and the numbers are live.
         let answer = unsafe {
             let handle = &mut self.handle;
             rbbi_sys::rbbi_session_segment(handle, place, &mut start, &mut end, &mut status)
         };
-        assert_ne!(answer, RBBI_FILTERED, "the session has a filter");
-        (answer == RBBI_OK).then_some(Segment { start, end, status })
+        checked(answer)?;
+        Ok((answer == RBBI_OK).then_some(Segment { start, end, status }))
     }
 
     /// The boundaries after `from`, up to and with `to`, in order, some thousand at a time. The
     /// session's cursor stays. This is the fast way to many boundaries.
+    ///
+    /// The one item is `Filtered` where the session has a filter.
     pub fn boundaries(&mut self, from: u32, to: u32) -> Chunks<'_> {
         Chunks::over(self, rbbi_sys::rbbi_session_boundaries, from, to)
     }
 
     /// The boundaries before `from`, down to and with `to`, the last one first, some thousand at a
-    /// time. The session's cursor stays.
+    /// time. The session's cursor stays. It refuses as [`Session::boundaries`] does.
     pub fn boundaries_before(&mut self, from: u32, to: u32) -> Chunks<'_> {
         Chunks::over(self, rbbi_sys::rbbi_session_boundaries_before, from, to)
     }
@@ -358,7 +356,7 @@ pub struct Boundaries {
 /// How many boundaries a chunk has at most.
 const CHUNK: usize = 4096;
 
-/// Boundaries within a range, in chunks. No chunk is empty.
+/// Boundaries within a range, in chunks. No chunk is empty. A refusal is the last item.
 #[derive(Debug)]
 pub struct Chunks<'a> {
     session: &'a mut Session,
@@ -381,9 +379,9 @@ impl Chunks<'_> {
 }
 
 impl Iterator for Chunks<'_> {
-    type Item = Boundaries;
+    type Item = Result<Boundaries, Error>;
 
-    fn next(&mut self) -> Option<Boundaries> {
+    fn next(&mut self) -> Option<Result<Boundaries, Error>> {
         if !self.more {
             return None;
         }
@@ -402,10 +400,14 @@ impl Iterator for Chunks<'_> {
                 &mut self.from,
             )
         };
-        assert_ne!(answer, RBBI_FILTERED, "the session has a filter");
         self.more = answer == RBBI_ROOM;
+        if !self.more {
+            if let Err(error) = checked(answer) {
+                return Some(Err(error));
+            }
+        }
         places.truncate(count);
         statuses.truncate(count);
-        (count > 0).then_some(Boundaries { places, statuses })
+        (count > 0).then_some(Ok(Boundaries { places, statuses }))
     }
 }

@@ -50,7 +50,10 @@ fn a_tally_counts_while_the_text_is_edited() {
     assert_eq!(tally.replace(10, 2, ""), Err(Error::Outside));
     assert_eq!((tally.segments(), tally.count(0)), (5, 2));
     assert_eq!(tally.replace(5, 1, ""), Ok(()));
-    assert_eq!((tally.segments(), tally.count(0), tally.count(7)), (4, 1, 0));
+    assert_eq!(
+        (tally.segments(), tally.count(0), tally.count(7)),
+        (4, 1, 0)
+    );
 }
 
 #[test]
@@ -85,14 +88,19 @@ fn boundaries_are_those_that_next_gives() {
         let cursor = session.current();
         let (mut places, mut statuses) = (Vec::new(), Vec::new());
         for chunk in session.boundaries(0, u32::MAX) {
+            let chunk = chunk.unwrap();
             places.extend(chunk.places);
             statuses.extend(chunk.statuses);
         }
-        assert!(places.iter().eq(segments.iter().map(|segment| &segment.end)));
-        assert!(statuses.iter().eq(segments.iter().map(|segment| &segment.status)));
+        assert!(places
+            .iter()
+            .eq(segments.iter().map(|segment| &segment.end)));
+        assert!(statuses
+            .iter()
+            .eq(segments.iter().map(|segment| &segment.status)));
         let back: Vec<u32> = session
             .boundaries_before(u32::MAX, 1)
-            .flat_map(|chunk| chunk.places)
+            .flat_map(|chunk| chunk.unwrap().places)
             .collect();
         assert!(back.iter().eq(places.iter().rev()));
         assert_eq!(session.current(), cursor);
@@ -109,8 +117,8 @@ fn the_segment_at_a_place_leaves_the_cursor() {
         end: 5,
         status: 200,
     };
-    assert_eq!(session.segment(4), Some(word));
-    assert_eq!((session.segment(8), session.current()), (None, 5));
+    assert_eq!(session.segment(4), Ok(Some(word)));
+    assert_eq!((session.segment(8), session.current()), (Ok(None), 5));
 }
 
 #[test]
@@ -127,9 +135,15 @@ fn utf16_is_taken_and_lone_surrogates_are_refused() {
     let table = Table::compile(RULES).unwrap();
     let units: Vec<u16> = "a\u{1f600}b".encode_utf16().collect();
     let mut session = table.session_utf16(&units, Unit::Utf16).unwrap();
-    assert_eq!((session.length(), session.text(0, 4).as_deref()), (4, Ok("a\u{1f600}b")));
+    assert_eq!(
+        (session.length(), session.text(0, 4).as_deref()),
+        (4, Ok("a\u{1f600}b"))
+    );
     session.replace_utf16(1, 2, &[0x63]).unwrap();
-    assert_eq!(session.replace_utf16(0, 0, &[0x61, 0xdc00]), Err(Error::Lone(1)));
+    assert_eq!(
+        session.replace_utf16(0, 0, &[0x61, 0xdc00]),
+        Err(Error::Lone(1))
+    );
     assert_eq!(session.text(0, 3).as_deref(), Ok("acb"));
     let refused = table.session_utf16(&[0x61, 0xd83d, 0x63], Unit::Utf8);
     assert_eq!(refused.unwrap_err(), Error::Lone(1));
@@ -225,13 +239,27 @@ fn the_library_has_four_tables() {
 #[test]
 fn filters_leave_boundaries_out_or_turn_characters() {
     let table = Table::named("sentence").unwrap();
-    let mut session = table.session("I met Mr. Fox. He ran.", Unit::Chars).unwrap();
+    let mut session = table
+        .session("I met Mr. Fox. He ran.", Unit::Chars)
+        .unwrap();
     assert_eq!(session.next(), Some(10));
     session.suppress(b"# titles\nMr.\n").unwrap();
-    assert_eq!((session.next(), session.next(), session.next()), (Some(15), Some(22), None));
+    assert_eq!(
+        (session.next(), session.next(), session.next()),
+        (Some(15), Some(22), None)
+    );
     session.replace(15, 2, "\u{1f98a}").unwrap();
     assert_eq!((session.last(), session.length()), (21, 21));
     assert_eq!(session.fork().unwrap_err(), Error::Filtered);
+    assert_eq!(session.segment(0), Err(Error::Filtered));
+    let chunks: Vec<_> = session.boundaries(0, u32::MAX).collect();
+    assert_eq!(chunks, [Err(Error::Filtered)]);
+    let mut before = session.boundaries_before(u32::MAX, 0);
+    assert_eq!(
+        (before.next(), before.next()),
+        (Some(Err(Error::Filtered)), None)
+    );
+    assert_eq!(session.current(), 21);
     let table = Table::compile("[a-z]+; .;").unwrap();
     let mut session = table.session("a\u{b7}b", Unit::Utf8).unwrap();
     let Err(Error::Fault(fault)) = session.tailor(b"00B7;61\n") else {
