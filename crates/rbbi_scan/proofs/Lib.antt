@@ -1,0 +1,10 @@
+pub mod Columns
+pub mod Decoding
+pub mod Fills
+pub mod Leading
+pub mod Spelling
+pub mod Standing
+pub mod Statuses
+pub mod Stopping
+pub mod Whole
+pub mod Windows
