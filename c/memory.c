@@ -132,6 +132,18 @@ int main(void) {
         DONE(rbbi_session_replace_utf16(&session, 0, 1, wide, 2, NULL));
         wrong |= place_of(&session, 0) != 1 || place_of(&session, 4) != 1002;
         wrong |= asked_by_questions(&session) != 0;
+        uint64_t starts[2] = {77, 77}, ends[2] = {77, 77}, resume = 77;
+        uint32_t greatest[2] = {77, 77};
+        answer = rbbi_breaks(&other, text, sizeof text, 0, ends, greatest, 2, &length, &resume);
+        if (answer == RBBI_MEMORY) {
+            wrong |= ends[0] != 77 || greatest[0] != 77;
+        }
+        if (!is_done(answer, __LINE__)) {
+            DONE(rbbi_breaks(&other, text, sizeof text, 0, ends, greatest, 2, &length, &resume));
+        }
+        wrong |= length != 1 || resume != 3000 || ends[0] != 3000 || greatest[0] != 200 || ends[1] != 77;
+        DONE(rbbi_words_utf16(&other, wide, 2, 0, starts, ends, greatest, 2, &length, &resume));
+        wrong |= length != 1 || resume != 2 || starts[0] != 1 || ends[0] != 2 || greatest[1] != 77;
         rbbi_tally tally = RBBI_INIT;
         DONE(rbbi_tally_open(&tally, &other, text, sizeof text, RBBI_UTF8));
         wrong |= count_of(&tally, 200) != 1 || count_of(&tally, 100) != 0;
