@@ -12,15 +12,12 @@ use std::marker::Brand;
 use std::sync::ledger::{Blank, Ledger};
 
 /// No terminal is anywhere.
-fn surroundings(block: u32) -> Surroundings {
+fn surroundings(sizes: Sizes) -> Surroundings {
     Surroundings {
         output_is_terminal: false,
         errors_are_on_terminal: false,
         no_color: false,
-        sizes: Sizes {
-            block,
-            ..Sizes::USUAL
-        },
+        sizes,
     }
 }
 
@@ -55,7 +52,7 @@ fn status_by<L: Ledger>(alloc: Global, case: &mut Case, steps: &mut Steps<L>) ->
     if !case.is_segment {
         return rbbi(alloc, &case.words, &mut case.files, &mut case.out, steps);
     }
-    let surroundings = surroundings(case.block);
+    let surroundings = surroundings(case.sizes);
     let system = Memory { texts: &case.texts };
     segment(
         alloc,

@@ -54,23 +54,18 @@ abbrev pub PutsIn : {T E : Type 0} → Result T E → Bool → Option (List ℕ)
 PutsIn r is_lossy remaining wanted colors unit f table before now format = OnOk r ((x : List ℕ) × IsTextGiven is_lossy remaining x × IsText x
     × IfSome (lines_in format wanted colors x (segments unit f table x)) (Takes before now))
 
--- one text more was taken, with its heading
-pub more_taken : (kind : Kind) (request : Request) (f : Option Filter) (colors : Colors) (texts : Option (List ℕ → List ℕ))
-    (before so_far headed now : Option (List ℕ)) (is_first : Bool) (names read : List (Bor (List ℕ))) (i : ℕ) (d : Bor (List ℕ)) → read ≡ names
-    → i < length read → is_first ≡ (i == 0) → AreTakenInTurn (TakesText kind request f colors texts) before (take i names) so_far
-    → Takes so_far headed (heading_of request is_first (get_or read i d).now) → (is_lossy : Bool) → is_lossy ≡ request.is_lossy
-    → ((x : List ℕ) × IsTextOf is_lossy texts (get_or read i d).now x × TakesAnnex kind request f colors x headed now)
-    → AreTakenInTurn (TakesText kind request f colors texts) before (take (i + 1) names) now
-more_taken kind request f colors texts before so_far headed now is_first names read i d same within first taken heading is_lossy asked_for put =
-    let text = subst (λ b. (x : List ℕ) × IsTextOf b texts (get_or read i d).now x × TakesAnnex kind request f colors x headed now) asked_for put in
-    let Takes_it : ℕ → List ℕ → Option (List ℕ) → Option (List ℕ) → Type 0 = TakesText kind request f colors texts in
+-- one text more was taken
+pub more_taken : (takes : Bool → List ℕ → Option (List ℕ) → Option (List ℕ) → Type 0) (before so_far now : Option (List ℕ)) (is_first : Bool)
+    (names read : List (Bor (List ℕ))) (i : ℕ) (d : Bor (List ℕ)) → read ≡ names → i < length read → is_first ≡ (i == 0)
+    → AreTakenInTurn takes before (take i names) so_far → takes is_first (get_or read i d).now so_far now
+    → AreTakenInTurn takes before (take (i + 1) names) now
+more_taken takes before so_far now is_first names read i d same within first taken one =
     let inside : i < length names = subst (λ l. i < length l) same within in
-    let here : Takes_it i (get_or read i d).now so_far now =
-    (headed, subst (λ b. Takes so_far headed (heading_of request b (get_or read i d).now)) first heading, text) in
-    let numbered : Takes_it (length (take i names)) (get_or names i d).now so_far now =
-    subst (λ n. Takes_it n (get_or names i d).now so_far now) (sym (length-take-le i names (omega (arith, inside))))
-    (subst (λ l. Takes_it i (get_or l i d).now so_far now) same here) in
-    subst (λ l. AreTakenInTurn Takes_it before l now) (sym (take_more names i d inside)) (OneText (take i names) (get_or names i d) so_far now taken numbered)
+    let here : takes (i == 0) (get_or names i d).now so_far now =
+    subst (λ l. takes (i == 0) (get_or l i d).now so_far now) same (subst (λ b. takes b (get_or read i d).now so_far now) first one) in
+    let numbered : takes (length (take i names) == 0) (get_or names i d).now so_far now =
+    subst (λ n. takes (n == 0) (get_or names i d).now so_far now) (sym (length-take-le i names (omega (arith, inside)))) here in
+    subst (λ l. AreTakenInTurn takes before l now) (sym (take_more names i d inside)) (OneText (take i names) (get_or names i d) so_far now taken numbered)
 
 -- what is put of the texts that are named, by the table of the basis and the filter
 pub of_basis : {T E F : Type 0} (contents : F → Option (List ℕ → List ℕ)) (texts : Option (List ℕ → List ℕ)) (old mid : F) (table : Table)

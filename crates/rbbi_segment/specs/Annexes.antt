@@ -34,18 +34,22 @@ IsTableOf (OfFile name) old new table = Unit {0}
 abbrev pub heading_of : Request → Bool → List ℕ → List ℕ
 heading_of request is_first name = if request.has_headings then heading request.format is_first name else []
 
--- A sink took the heading of the text with this name, and then its lines. `count` texts came before it.
-abbrev pub TakesText : Kind → Request → Option Filter → Colors → Option (List ℕ → List ℕ) → ℕ → List ℕ → Option (List ℕ) → Option (List ℕ) → Type 0
-TakesText kind request filter colors texts count name before now =
-    (between : Option (List ℕ)) × Takes before between (heading_of request (count == 0) name)
-    × ((x : List ℕ) × IsTextOf request.is_lossy texts name x × TakesAnnex kind request filter colors x between now)
+-- A sink took the heading of the text with this name, and then the text's lines.
+abbrev pub TakesHeaded : Kind → Request → Option Filter → Colors → Bool → List ℕ → List ℕ → Option (List ℕ) → Option (List ℕ) → Type 0
+TakesHeaded kind request filter colors is_first name x before now =
+    (between : Option (List ℕ)) × Takes before between (heading_of request is_first name) × TakesAnnex kind request filter colors x between now
 
--- A sink took one text after the other, of these names and no others. `takes` says what taking one does, after so many.
-pub data AreTakenInTurn (takes : ℕ → List ℕ → Option (List ℕ) → Option (List ℕ) → Type 0) (before : Option (List ℕ)) :
+-- A sink took the heading and the lines of the text that the file of this name holds.
+abbrev pub TakesText : Kind → Request → Option Filter → Colors → Option (List ℕ → List ℕ) → Bool → List ℕ → Option (List ℕ) → Option (List ℕ) → Type 0
+TakesText kind request filter colors texts is_first name before now =
+    (x : List ℕ) × IsTextOf request.is_lossy texts name x × TakesHeaded kind request filter colors is_first name x before now
+
+-- A sink took one text after the other, of these names and no others. `takes` says what taking one does, the first or a later one.
+pub data AreTakenInTurn (takes : Bool → List ℕ → Option (List ℕ) → Option (List ℕ) → Type 0) (before : Option (List ℕ)) :
     List (Bor (List ℕ)) → Option (List ℕ) → Type 0 where
   NoText : AreTakenInTurn takes before [] before
   OneText : (names : List (Bor (List ℕ))) (name : Bor (List ℕ)) (between now : Option (List ℕ)) →
-      AreTakenInTurn takes before names between → takes (length names) name.now between now →
+      AreTakenInTurn takes before names between → takes (length names == 0) name.now between now →
       AreTakenInTurn takes before (names ++ name ∷ []) now
 
 -- With a built-in table a sink took these lines of the texts that the request names, through the filter that is asked for. `files` says what

@@ -10,7 +10,7 @@ use crate::options::{Asked, Basis, Layout, Request, Task};
 use crate::quoted::{Style, put_characters, put_line, put_waiting};
 use crate::reading::{RULES_LIMIT, read, read_text};
 use crate::rules::table_of_rules;
-use crate::segments::{Progress, Receive, Segment, Span, hand_window};
+use crate::segments::{Extent, Progress, Receive, Segment, Span, hand_window};
 use rbbi_builtin::add_asked_for;
 use rbbi_compile::{read_rules, rule_text};
 use rbbi_explain::{Explainer, Explanation, Origin, Part, Reason, RuleText, rule_texts};
@@ -446,8 +446,13 @@ fn explain_all<K: Sink, L: Ledger>(
     let unit = receiver.unit;
     let mut marks = FrontPlaces::new(alloc, table)?;
     let start = Progress::START;
+    let extent = Extent {
+        is_whole: true,
+        is_last: true,
+        limit: u32::MAX,
+    };
     let _progress = hand_window(
-        table, &None, text, unit, true, &mut marks, start, receiver, out, steps,
+        table, &None, text, unit, extent, &mut marks, start, receiver, out, steps,
     )?;
     receiver.end(out)?;
     Ok(())

@@ -217,7 +217,7 @@ static TEXTS: [FaultText; 44] = [
     },
     FaultText {
         label: "SegmentTooLong",
-        cause: "a segment is too long: it has 4194304 characters or more",
+        cause: "the end of a segment isn't found in 4194304 characters",
         help: "Break the text into shorter parts, or by rules that match less.",
     },
     FaultText {

@@ -4,8 +4,9 @@ ghost use Rattle.rbbi_io.specs.Sinks.{Takes};
 ghost use Rattle.rbbi_model.specs.Words.{IsText};
 ghost use Rattle.rbbi_segment_tables.specs.Annexes.{GivesAnnex};
 ghost use Rattle.rbbi_segment_tables.specs.declared.loading.Kind.{Kind};
-ghost use Rattle.rbbi_segment.specs.Annexes.{AreTakenInTurn, TakesAnnex, TakesText, heading_of};
-ghost use Rattle.rbbi_segment.specs.Contents.{IsTextGiven, IsTextOf};
+ghost use Rattle.rbbi_segment.specs.Annexes.{AreTakenInTurn, TakesAnnex, TakesHeaded, TakesText};
+ghost use Rattle.rbbi_segment.specs.Annexes.{heading_of};
+ghost use Rattle.rbbi_segment.specs.Contents.{IsTextGiven};
 ghost use Rattle.rbbi_segment.specs.Headings.{arrows, gap, heading};
 ghost use Rattle.rbbi_segment.specs.Lines.{lines, lines_in};
 ghost use Rattle.rbbi_segment.specs.Segments.{segments};
@@ -159,41 +160,6 @@ fn put_text<R: Read, K: Sink, L: Ledger>(
     put_segments(origin, request, table, filter, reader, colors, out, steps)
 }
 
-/// Prints the segments of the text with this name, or of the standard input if it is `-`. It
-/// answers how many sequences of its bytes were replaced.
-fn put_named<S: System, R: Read, K: Sink, L: Ledger>(
-    origin: Origin<'_>,
-    request: &Request<'_>,
-    table: &Table,
-    filter: &Option<Filter>,
-    system: &S,
-    input: &mut R,
-    colors: Colors,
-    out: &mut K,
-    steps: &mut Steps<L>,
-) -> Result<u32, Failure>
-    ensures { (kind : Kind) → GivesAnnex kind table.now → OnOk result ((x : List ℕ)
-        × IsTextOf origin.entry.is_lossy (S.contents system.now) origin.entry.name.now x
-        × TakesAnnex kind request.now filter.now colors x (K.taken out.old) (K.taken out.new)) }
-{
-    if origin.name == "-" {
-        return put_text(origin, request, table, filter, input, colors, out, steps);
-    }
-    match system.open(origin.name) {
-        Ok(mut reader) => put_text(
-            origin,
-            request,
-            table,
-            filter,
-            &mut reader,
-            colors,
-            out,
-            steps,
-        ),
-        Err(fault) => Err(origin.unread(Some(fault))),
-    }
-}
-
 /// Appends a name between arrows.
 fn append_arrows(name: &str, made: &mut Vec<u8>) -> Result<(), AllocError>
     ensures { OnOk result (made.new.items ≡ made.old.items ++ arrows name.now) }
@@ -264,6 +230,69 @@ fn put_heading<K: Sink>(
     Ok(())
 }
 
+/// Prints the segments of the text that a reader gives, after its heading. It answers how many
+/// sequences of its bytes were replaced.
+fn put_headed<R: Read, K: Sink, L: Ledger>(
+    origin: Origin<'_>,
+    request: &Request<'_>,
+    is_first: bool,
+    table: &Table,
+    filter: &Option<Filter>,
+    reader: &mut R,
+    colors: Colors,
+    out: &mut K,
+    steps: &mut Steps<L>,
+) -> Result<u32, Failure>
+    ensures { (kind : Kind) → GivesAnnex kind table.now → OnOk result ((x : List ℕ)
+        × IsTextGiven origin.entry.is_lossy (R.remaining reader.old) x
+        × TakesHeaded kind request.now filter.now colors is_first origin.entry.name.now x
+        (K.taken out.old) (K.taken out.new)) }
+{
+    put_heading(origin.alloc, request, is_first, origin.name, out)?;
+    put_text(origin, request, table, filter, reader, colors, out, steps)
+}
+
+/// Prints the segments of the text with this name, or of the standard input if it is `-`, after its
+/// heading. It answers how many sequences of its bytes were replaced. Nothing is printed of a text
+/// that can't be opened.
+fn put_named<S: System, R: Read, K: Sink, L: Ledger>(
+    origin: Origin<'_>,
+    request: &Request<'_>,
+    is_first: bool,
+    table: &Table,
+    filter: &Option<Filter>,
+    system: &S,
+    input: &mut R,
+    colors: Colors,
+    out: &mut K,
+    steps: &mut Steps<L>,
+) -> Result<u32, Failure>
+    requires { origin.is_lossy ≡ request.now.is_lossy }
+    ensures { (kind : Kind) → GivesAnnex kind table.now → OnOk result
+        (TakesText kind request.now filter.now colors (S.contents system.now) is_first
+        origin.entry.name.now (K.taken out.old) (K.taken out.new)) }
+{
+    if origin.name == "-" {
+        return put_headed(
+            origin, request, is_first, table, filter, input, colors, out, steps,
+        );
+    }
+    match system.open(origin.name) {
+        Ok(mut reader) => put_headed(
+            origin,
+            request,
+            is_first,
+            table,
+            filter,
+            &mut reader,
+            colors,
+            out,
+            steps,
+        ),
+        Err(fault) => Err(origin.unread(Some(fault))),
+    }
+}
+
 /// Prints the segments of the texts that are named, one text after the other, each with its heading
 /// if that is asked for. It answers of each how many sequences of its bytes were replaced.
 pub(crate) fn put_texts<S: System, R: Read, K: Sink, L: Ledger>(
@@ -284,10 +313,10 @@ pub(crate) fn put_texts<S: System, R: Read, K: Sink, L: Ledger>(
 {
     let mut replaced = Vec::new(origin.alloc);
     for name in &request.names {
-        put_heading(origin.alloc, request, replaced.is_empty(), name, out)?;
+        let is_first = replaced.is_empty();
         let origin = Origin { name, ..origin };
         let count = put_named(
-            origin, request, table, filter, system, input, colors, out, steps,
+            origin, request, is_first, table, filter, system, input, colors, out, steps,
         )?;
         replaced.push(count)?;
     }

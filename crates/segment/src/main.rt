@@ -71,10 +71,12 @@ fn run<L: Ledger>(rt: &HostRuntime, words: &Vec<String>, blank: Blank) -> u8
 
 /// Why there are no arguments.
 fn refusal(fault: &io::Error) -> &'static str {
-    if fault.kind() == ErrorKind::InvalidData {
-        "an argument isn't UTF-8: give a file of such a name as standard input, segment < FILE"
-    } else {
-        "the system doesn't give the arguments"
+    match fault.kind() {
+        ErrorKind::InvalidData => {
+            "an argument isn't UTF-8: give a file of such a name as standard input, segment < FILE"
+        }
+        ErrorKind::OutOfMemory => "memory ran out",
+        _ => "the system doesn't give the arguments",
     }
 }
 

@@ -19,11 +19,10 @@ loop-name-preserved g c =
         c.loop-name.invariant.counts,
       );
       taken = λ kind gives.
-          more_taken kind c.args.request.now c.args.filter.now c.args.colors (g.S.System.contents c.args.system.now) (g.K.Sink.taken c.args.out.now)
-          (g.K.Sink.taken c.loop-name.out) (g.K.Sink.taken c.put_heading.new.out) (g.K.Sink.taken c.put_named.new.out) c.is_empty.result
+          more_taken (TakesText kind c.args.request.now c.args.filter.now c.args.colors (g.S.System.contents c.args.system.now))
+          (g.K.Sink.taken c.args.out.now) (g.K.Sink.taken c.loop-name.out) (g.K.Sink.taken c.put_named.new.out) c.is_empty-is_first.result
           c.args.request.now.names.items c.deref-name-items.result.now i _ c.deref-name-items.ensures.value c.loop-name-test.true
-          (c.is_empty.ensures ∙ ap (λ n. n == 0) counted) (c.loop-name.invariant.taken kind gives) c.in_ok-put_heading.ensures
-          c.args.origin.is_lossy c.requires (c.in_ok-count.ensures kind gives);
+          (c.is_empty-is_first.ensures ∙ ap (λ n. n == 0) counted) (c.loop-name.invariant.taken kind gives) (c.in_ok-count.ensures kind gives);
     }
 
 -- all names were taken
