@@ -3,7 +3,7 @@ ghost use Rattle.std.specs.Prelude.{◌≡◌, ◌<◌};
 
 use crate::case::{Case, Counted, Wanted};
 use rbbi_io::MemFiles;
-use rbbi_segment::{Sizes, Surroundings, System, segment};
+use rbbi_segment::{CommandLine, Sizes, Surroundings, System, segment};
 use rbbi_text::Steps;
 use rbbi_tool::rbbi;
 use std::alloc::{AllocError, Global};
@@ -54,9 +54,10 @@ fn status_by<L: Ledger>(alloc: Global, case: &mut Case, steps: &mut Steps<L>) ->
     }
     let surroundings = surroundings(case.sizes);
     let system = Memory { texts: &case.texts };
+    let line = CommandLine::parse(alloc, &case.words);
     segment(
         alloc,
-        &case.words,
+        &line,
         surroundings,
         &system,
         &mut case.files,

@@ -279,9 +279,14 @@ static TEXTS: [FaultText; 44] = [
     },
 ];
 
+/// What is reported of each fault.
+fn texts() -> &'static [FaultText] {
+    &TEXTS
+}
+
 /// What is reported of the fault with this label.
 pub(crate) fn text_of(label: &str) -> FaultText {
-    for text in TEXTS.iter() {
+    for text in texts() {
         if text.label == label {
             return *text;
         }

@@ -15,7 +15,7 @@ ghost use Rattle.rbbi_segment.specs.Spelled.{IsFront, IsSpelled, Reads, marks};
 ghost use Rattle.rbbi_segment.specs.Windows.{IsShifted, LiesIn};
 
 use crate::colors::Colors;
-use crate::failure::{Failure, IS_REFUSED};
+use crate::failure::{Failure, Status};
 use crate::faults::{Place, fault_of};
 use crate::line_ends::{end_lines, is_whole};
 use crate::segments::{Extent, Progress, Receive, hand_window};
@@ -66,7 +66,14 @@ pub(crate) struct Origin<'a> {
 impl Origin<'_> {
     /// The failure that the text has a fault of this label.
     pub(crate) fn fault(&self, label: &str, place: Place) -> Failure {
-        fault_of(self.alloc, IS_REFUSED, self.name, label, place, self.colors)
+        fault_of(
+            self.alloc,
+            Status::IsRefused,
+            self.name,
+            label,
+            place,
+            self.colors,
+        )
     }
 
     /// The failure that the text can't be read, with what the system said, if that is known.
@@ -308,8 +315,8 @@ pub(crate) fn hand_over<R: Read, V: Receive, K: Sink, L: Ledger>(
     out: &mut K,
     steps: &mut Steps<L>,
 ) -> Result<u32, Failure>
-    ensures { OnOk result ((x : List ℕ)
-        × IsTextGiven origin.entry.is_lossy (R.remaining reader.old) x × IsText x
+    ensures { OnOk result ((x : List ℕ) × IsTextGiven origin.entry.is_lossy
+        (R.remaining reader.old) x (R.remaining reader.new) × IsText x
         × TakesAll V.takes V.pauses V.ends x (segments unit filter.now table.now x)
         receiver.old (K.taken out.old) (K.taken out.new)) }
 {

@@ -97,7 +97,10 @@ impl Wrapped {
 
     /// Whether a word of so many columns fits in the line after the white space.
     fn fits(&self, columns: usize) -> bool {
-        let end = self.column.saturating_add(self.space_columns).saturating_add(columns);
+        let end = self
+            .column
+            .saturating_add(self.space_columns)
+            .saturating_add(columns);
         !self.is_full && end <= self.width
     }
 
