@@ -128,7 +128,7 @@ int main(void) {
     IS(change.from == 5 && change.old_to == 9 && change.new_to == 7, 1);
 
     /* many boundaries, a segment and the text */
-    uint32_t places[2], resume = 77;
+    uint32_t places[2], statuses_of_two[2] = {77, 77}, resume = 77;
     char room[4];
     IS(rbbi_session_boundaries(&session, 0, 9, NULL, NULL, 2, &count, &resume), RBBI_NULL);
     IS(rbbi_session_boundaries(&session, 0, 9, places, NULL, 2, &count, NULL), RBBI_NULL);
@@ -217,6 +217,33 @@ int main(void) {
     IS(rbbi_session_text(&fourth, 1, 2, room, 4, &count), RBBI_OK);
     IS(count == 1 && room[0] == 'y', 1);
     rbbi_session_close(&fourth);
+
+    /* a text that no session holds */
+    uint64_t starts[2] = {77, 77}, ends[2] = {77, 77}, next = 77;
+    count = 77;
+    IS(rbbi_breaks(NULL, text, 5, 0, ends, NULL, 2, &count, &next), RBBI_NULL);
+    IS(rbbi_breaks(&table, NULL, 5, 0, ends, NULL, 2, &count, &next), RBBI_NULL);
+    IS(rbbi_breaks(&table, text, 5, 0, NULL, NULL, 2, &count, &next), RBBI_NULL);
+    IS(rbbi_breaks(&table, text, 5, 0, ends, NULL, 2, NULL, &next), RBBI_NULL);
+    IS(rbbi_breaks(&table, text, 5, 0, ends, NULL, 2, &count, NULL), RBBI_NULL);
+    IS(rbbi_words(&table, text, 5, 0, NULL, ends, NULL, 2, &count, &next), RBBI_NULL);
+    IS(rbbi_breaks(&other, text, 5, 0, ends, NULL, 2, &count, &next), RBBI_HANDLE);
+    IS(rbbi_breaks((rbbi_table *)&session, text, 5, 0, ends, NULL, 2, &count, &next), RBBI_HANDLE);
+    IS(rbbi_breaks(&table, text, 5, 6, ends, NULL, 2, &count, &next), RBBI_OUTSIDE);
+    IS(count == 77 && next == 77 && ends[0] == 77, 1);
+    IS(rbbi_breaks(&table, NULL, 0, 0, NULL, NULL, 0, &count, &next), RBBI_OK);
+    IS(count == 0 && next == 0, 1);
+    IS(rbbi_breaks(&table, "a b \xff", 5, 0, ends, NULL, 2, &count, &next), RBBI_ROOM);
+    IS(count == 2 && next == 2 && ends[0] == 1 && ends[1] == 2, 1);
+    IS(rbbi_breaks(&table, "a b \xff", 5, next, ends, NULL, 2, &count, &next), RBBI_NOT_UTF8);
+    IS(count == 1 && next == 4 && ends[0] == 3 && ends[1] == 2, 1);
+    IS(rbbi_breaks(&table, "\xc3\xa9", 2, 1, ends, NULL, 2, &count, &next), RBBI_NOT_UTF8);
+    IS(count == 0 && next == 1, 1);
+    IS(rbbi_breaks_utf16(&table, low, 2, 0, ends, statuses_of_two, 2, &count, &next), RBBI_LONE);
+    IS(count == 0 && next == 1 && ends[0] == 3, 1);
+    IS(rbbi_words(&table, ", \xe0\xb8\x81 7", 7, 0, starts, ends, statuses_of_two, 2, &count, &next), RBBI_OK);
+    IS(count == 2 && next == 7 && starts[0] == 2 && ends[0] == 5 && starts[1] == 6 && ends[1] == 7, 1);
+    IS(statuses_of_two[1], 100);
 
     /* tallies */
     rbbi_tally tally = RBBI_INIT, empty = RBBI_INIT;

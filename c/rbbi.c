@@ -23,6 +23,11 @@ typedef struct {
     uint32_t from, to, status;
 } segment;
 
+/* How many places were written, and the one that is told, as the proved side has them. */
+typedef struct {
+    size_t count, place;
+} given;
+
 uint32_t rbbi_c_properties(rbbi_files *);
 uint32_t rbbi_c_properties_add(rbbi_files *, const uint8_t *, size_t, const uint8_t *, size_t,
                                told *, uint8_t *, size_t);
@@ -32,6 +37,14 @@ uint32_t rbbi_c_table_load(const uint8_t *, size_t, rbbi_table *, told *, uint8_
 uint32_t rbbi_c_table_named(const uint8_t *, size_t, rbbi_table *);
 uint32_t rbbi_c_table_share(rbbi_table *, rbbi_table *);
 uint32_t rbbi_c_table_write(rbbi_table *, uint8_t *, size_t, size_t *);
+uint32_t rbbi_c_breaks(rbbi_table *, const uint8_t *, size_t, size_t, uint64_t *, size_t, uint32_t *,
+                       size_t, given *);
+uint32_t rbbi_c_breaks_utf16(rbbi_table *, const uint16_t *, size_t, size_t, uint64_t *, size_t,
+                             uint32_t *, size_t, given *);
+uint32_t rbbi_c_words(rbbi_table *, const uint8_t *, size_t, size_t, uint64_t *, size_t, uint64_t *,
+                      size_t, uint32_t *, size_t, given *);
+uint32_t rbbi_c_words_utf16(rbbi_table *, const uint16_t *, size_t, size_t, uint64_t *, size_t,
+                            uint64_t *, size_t, uint32_t *, size_t, given *);
 uint32_t rbbi_c_open(rbbi_table *, const uint8_t *, size_t, uint32_t, rbbi_session *);
 uint32_t rbbi_c_open_utf16(rbbi_table *, const uint16_t *, size_t, uint32_t, rbbi_session *,
                            uint32_t *);
@@ -255,6 +268,74 @@ void rbbi_table_close(rbbi_table *table) {
     }
 }
 
+/* No statuses are wanted where C passes no room for them, and no places. */
+static uint32_t none[1];
+static uint64_t nowhere[1];
+
+/* Asks for boundaries, or with room for starts for words, of a text in UTF-8 or of units of UTF-16. */
+static int scan(rbbi_table *table, const char *text, const uint16_t *units, size_t length,
+                uint64_t first, uint64_t *starts, uint64_t *ends, uint32_t *statuses, size_t room,
+                size_t *count, uint64_t *resume, bool words) {
+    given told = {*count, *resume};
+    rbbi_table own = RBBI_INIT;
+    int answer = share(table, &own);
+    size_t wanted = statuses ? room : 0;
+    starts = starts ? starts : nowhere;
+    ends = ends ? ends : nowhere;
+    statuses = statuses ? statuses : none;
+    if (answer == RBBI_OK) {
+        answer = (int)(units ? words ? rbbi_c_words_utf16(&own, units, length, first, starts, room, ends,
+                                                          room, statuses, wanted, &told)
+                                     : rbbi_c_breaks_utf16(&own, units, length, first, ends, room,
+                                                           statuses, wanted, &told)
+                       : words ? rbbi_c_words(&own, from(text), length, first, starts, room, ends, room,
+                                              statuses, wanted, &told)
+                               : rbbi_c_breaks(&own, from(text), length, first, ends, room, statuses,
+                                               wanted, &told));
+        rbbi_c_close(&own);
+        *count = told.count;
+        *resume = told.place;
+    }
+    return answer;
+}
+
+int rbbi_breaks(rbbi_table *table, const char *text, size_t length, uint64_t from,
+                uint64_t *places, uint32_t *statuses, size_t room, size_t *count,
+                uint64_t *resume) {
+    if (!table || (!text && length) || (!places && room) || !count || !resume) {
+        return RBBI_NULL;
+    }
+    return scan(table, text, NULL, length, from, NULL, places, statuses, room, count, resume, false);
+}
+
+int rbbi_breaks_utf16(rbbi_table *table, const uint16_t *text, size_t length, uint64_t from,
+                      uint64_t *places, uint32_t *statuses, size_t room, size_t *count,
+                      uint64_t *resume) {
+    if (!table || (!text && length) || (!places && room) || !count || !resume) {
+        return RBBI_NULL;
+    }
+    return scan(table, NULL, text ? text : (const uint16_t *)nothing, length, from, NULL, places,
+                statuses, room, count, resume, false);
+}
+
+int rbbi_words(rbbi_table *table, const char *text, size_t length, uint64_t from, uint64_t *starts,
+               uint64_t *ends, uint32_t *statuses, size_t room, size_t *count, uint64_t *resume) {
+    if (!table || (!text && length) || (!(starts && ends) && room) || !count || !resume) {
+        return RBBI_NULL;
+    }
+    return scan(table, text, NULL, length, from, starts, ends, statuses, room, count, resume, true);
+}
+
+int rbbi_words_utf16(rbbi_table *table, const uint16_t *text, size_t length, uint64_t from,
+                     uint64_t *starts, uint64_t *ends, uint32_t *statuses, size_t room,
+                     size_t *count, uint64_t *resume) {
+    if (!table || (!text && length) || (!(starts && ends) && room) || !count || !resume) {
+        return RBBI_NULL;
+    }
+    return scan(table, NULL, text ? text : (const uint16_t *)nothing, length, from, starts, ends,
+                statuses, room, count, resume, true);
+}
+
 int rbbi_session_open(rbbi_session *session, rbbi_table *table, const char *text, size_t length,
                       int unit) {
     if (!session || !table || (!text && length)) {
@@ -401,9 +482,6 @@ int rbbi_session_statuses(rbbi_session *session, uint32_t *room, size_t size, si
     }
     return (int)rbbi_c_statuses(session, room ? room : nothing, size, count);
 }
-
-/* No statuses are wanted where C passes no room for them. */
-static uint32_t none[1];
 
 int rbbi_session_boundaries(rbbi_session *session, uint32_t from, uint32_t to, uint32_t *places,
                             uint32_t *statuses, size_t room, size_t *count, uint32_t *resume) {

@@ -1,8 +1,8 @@
 /*
- * Several threads pass the handle of one table at once: each opens sessions and a tally by it,
- * asks, edits, writes the table and makes handles of its own. All find what the first thread finds
- * alone. bin/check-c runs this under ThreadSanitizer, and under helgrind, which sees the proved
- * code as well.
+ * Several threads pass the handle of one table at once: each opens sessions and a tally by it, asks,
+ * edits, asks for the boundaries of a text in one call, writes the table and makes handles of its own.
+ * All find what the first thread finds alone. bin/check-c runs this under ThreadSanitizer, and under
+ * helgrind, which sees the proved code as well.
  */
 #include <pthread.h>
 #include <rbbi.h>
@@ -47,6 +47,12 @@ static found round_of(void) {
     result.wrong |= rbbi_tally_segments(&tally, &segments) != RBBI_OK;
     rbbi_tally_close(&tally);
     rbbi_table_close(&own);
+    uint64_t places[64], resume = 0;
+    uint32_t statuses[64];
+    size_t count = 0;
+    result.wrong |= rbbi_breaks(&table, text, sizeof text - 1, 0, places, statuses, 64, &count,
+                                &resume) != RBBI_OK;
+    result.wrong |= count != segments || resume != sizeof text - 1;
     result.wrong |= rbbi_table_write(&table, file, sizeof file, &result.length) != RBBI_OK;
     result.sum = sum_of(&one, &result.wrong) + sum_of(&other, &result.wrong) + segments;
     result.wrong |= rbbi_session_replace(&one, 3, 1, "no", 2) != RBBI_OK;

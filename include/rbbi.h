@@ -19,26 +19,27 @@
  * names that you pass are copied or read during the call, and stay yours. Only handles have to be
  * closed; nothing else that you receive has to be freed.
  *
- * THREADS. Several threads may pass one table's handle to rbbi_table_share, rbbi_table_write and
- * the calls that open a session or a tally at once: nothing changes a table. These calls take
- * turns, under a lock that is the library's only state, just to count one more owner. All other
- * calls need their handles to themselves: one thread at a time uses a session, a tally or a list
+ * THREADS. Several threads may pass one table's handle to rbbi_table_share, rbbi_table_write,
+ * rbbi_breaks, rbbi_words and the calls that open a session or a tally at once: nothing changes a
+ * table. These calls take turns, under a lock that is the library's only state, just to count one
+ * more owner. All other calls need their handles to themselves: one thread at a time uses a session, a tally or a list
  * of property files, and no thread uses a handle while another opens or closes it. Sessions and
  * tallies of one table may be used side by side. Handles may move from thread to thread, under a
  * lock or when a thread starts or ends. A process may fork while other threads take turns: in the
  * child a table's handle is as usable as before.
  *
  * UNITS. All places and lengths of a session or a tally count the unit that it was opened in:
- * bytes of UTF-8, 16-bit units of UTF-16, or characters (code points). They begin at 0. A text has
- * at most 16,777,216 characters.
+ * bytes of UTF-8, 16-bit units of UTF-16, or characters (code points). They begin at 0. The text of
+ * a session or a tally has at most 16,777,216 characters.
  *
  * ANSWERS. Each call but the close calls returns an int: RBBI_OK, RBBI_DONE, or an error. An error
- * leaves every handle and every number as it was, with three exceptions: RBBI_FAULT writes the
- * fault, RBBI_LONE the number of the surrogate, and RBBI_ROOM the length and as much as fits. Room
- * past what is written stays as it was. No call ends the process, writes or reads a file, or waits,
- * but for the turns above. Opening, filters, forking, editing, compiling, loading, writing,
- * rbbi_session_text and rbbi_tally_each allocate memory. Other questions don't; that isn't proved,
- * but seen by reading the code.
+ * leaves every handle and every number as it was, with four exceptions: RBBI_FAULT writes the fault,
+ * RBBI_LONE the number of the surrogate, RBBI_ROOM the length and as much as fits, and rbbi_breaks
+ * and rbbi_words write what they found. Room past what is written stays as it was. No call ends the
+ * process, writes or reads a file, or waits, but for the turns above. Opening, filters, forking,
+ * editing, compiling, loading, writing, rbbi_session_text, rbbi_tally_each, rbbi_breaks and
+ * rbbi_words allocate memory. Other questions don't; that isn't proved, but seen by reading the
+ * code.
  */
 #ifndef RBBI_H
 #define RBBI_H
@@ -51,7 +52,7 @@ extern "C" {
 #endif
 
 /* The version of this header: new calls raise its second number, changed ones its first. */
-#define RBBI_VERSION "2.4.0"
+#define RBBI_VERSION "2.5.0"
 
 /* A list of property files, a table, a session and a tally. */
 typedef struct rbbi_files {
@@ -176,6 +177,44 @@ int rbbi_table_share(rbbi_table *other, rbbi_table *table);
 int rbbi_table_write(rbbi_table *table, void *room, size_t size, size_t *length);
 
 void rbbi_table_close(rbbi_table *table);
+
+/* ---- a text that nobody edits: its boundaries in one call. The text stays where it is, and nothing
+   is opened or closed. Places have 64 bits and count bytes of UTF-8 or units of UTF-16, from 0; the
+   text may have any length ---- */
+
+/* Writes the boundaries after `from` of a text in UTF-8 of `length` bytes, in order, into `places`,
+   and the largest status of each into `statuses`, each of `room` numbers, and how many were written
+   to `count`. `from` is a boundary, such as 0 or one that an earlier call wrote; from another place
+   where a character begins, the boundaries are those of the text that begins there. `resume` is the
+   last boundary found, or `from` if there was none: what is left is what a call from `resume` on
+   writes.
+   RBBI_OK: the last boundary is written, which is the text's end. RBBI_ROOM: there are more.
+   RBBI_OUTSIDE: `from` lies past the end; nothing is written. The next three come after all
+   boundaries before the search that they stop, which are written and counted. RBBI_NOT_UTF8: the
+   search reads bytes that aren't UTF-8; `resume` is the first of them. RBBI_TOO_LONG: it reads more
+   than 16,777,216 characters. RBBI_MEMORY: memory ran out; a call from `resume` on tries again.
+   `text` may be NULL if `length` is 0, `statuses` may be NULL, and if `room` is 0, `places` too.
+   Memory is taken within the call and freed: a little, and more by rules with look-ahead or where a
+   search reads past 1,024 characters. */
+int rbbi_breaks(rbbi_table *table, const char *text, size_t length, uint64_t from,
+                uint64_t *places, uint32_t *statuses, size_t room, size_t *count,
+                uint64_t *resume);
+
+/* The same of a text in UTF-16 of `length` units. A surrogate in no pair is answered by RBBI_LONE in
+   place of RBBI_NOT_UTF8. */
+int rbbi_breaks_utf16(rbbi_table *table, const uint16_t *text, size_t length, uint64_t from,
+                      uint64_t *places, uint32_t *statuses, size_t room, size_t *count,
+                      uint64_t *resume);
+
+/* Writes the segments after `from` that are words: those that have a letter or a digit of any script.
+   Where each begins goes into `starts`, where it ends into `ends`, and the largest status of its end
+   into `statuses`, each of `room` numbers. All else is as with rbbi_breaks; `resume` may lie past the
+   last word. */
+int rbbi_words(rbbi_table *table, const char *text, size_t length, uint64_t from, uint64_t *starts,
+               uint64_t *ends, uint32_t *statuses, size_t room, size_t *count, uint64_t *resume);
+int rbbi_words_utf16(rbbi_table *table, const uint16_t *text, size_t length, uint64_t from,
+                     uint64_t *starts, uint64_t *ends, uint32_t *statuses, size_t room,
+                     size_t *count, uint64_t *resume);
 
 /* ---- sessions ---- */
 

@@ -10,3 +10,4 @@ pub mod Spelled
 pub mod Compiled
 pub mod Telling
 pub mod Stretched
+pub mod ThroughDesks

@@ -15,6 +15,7 @@ pub mod Ranges
 pub mod Segments
 pub mod Listing
 pub mod Parts
+pub mod Scanning
 pub mod Wide
 pub mod Changing
 pub mod Forking

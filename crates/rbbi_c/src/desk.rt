@@ -100,7 +100,8 @@ impl Desk {
             IsToldChange self.old self.new at remove (chars insert.now) change.new)
             (λ _. change.new ≡ change.old) }
     {
-        let unit = self.session.unit;
+        let session = &self.session;
+        let unit = session.unit;
         replace_telling(
             alloc,
             self.table.table(),

@@ -9,7 +9,7 @@ use crate::asking::{Ask, Told, found};
 use crate::copying::copy_front;
 use rbbi_filter::{Moves, UnitThrough};
 use rbbi_session::Walk;
-use rbbi_text::Steps;
+use rbbi_text::{Steps, UnitText};
 use std::sync::ledger::Ledger;
 
 /// Asks a session through a filter.
@@ -18,6 +18,8 @@ pub(crate) fn answered_through<M: Moves, L: Ledger>(
     asked: Ask,
     steps: &mut Steps<L>,
 ) -> Told
+where
+    M::Text: UnitText,
     ensures told { result ≡ told_of (reply_to unit_filter_view session.old (question_of asked)) }
     ensures asked { IsAsked unit_filter_view session.old (question_of asked) session.new
         steps.old steps.new }
@@ -40,6 +42,8 @@ pub(crate) fn answered_through<M: Moves, L: Ledger>(
 
 /// Writes the statuses at the cursor, as many as there is room for. How many there are.
 pub(crate) fn statuses_through<M: Moves>(session: &UnitThrough<M>, room: &mut [u32]) -> usize
+where
+    M::Text: UnitText,
     ensures { AreListed unit_filter_view session.now room.old room.new result }
 {
     let list = session.status_list();

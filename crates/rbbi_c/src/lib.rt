@@ -29,6 +29,7 @@ mod questions;
 mod ranges;
 mod reading;
 mod rules;
+mod scanning;
 mod segment;
 mod sessions;
 mod shared;
@@ -53,6 +54,7 @@ pub use questions::{
 };
 pub use ranges::{rbbi_c_boundaries, rbbi_c_boundaries_before, rbbi_c_part, rbbi_c_segment};
 pub use rules::{rbbi_c_properties, rbbi_c_properties_add, rbbi_c_table_compile};
+pub use scanning::{Given, rbbi_c_breaks, rbbi_c_breaks_utf16, rbbi_c_words, rbbi_c_words_utf16};
 pub use segment::Segment;
 pub use sessions::{rbbi_c_close, rbbi_c_length, rbbi_c_open, rbbi_c_replace, rbbi_c_statuses};
 pub use tables::{rbbi_c_table_load, rbbi_c_table_share, rbbi_c_table_write};

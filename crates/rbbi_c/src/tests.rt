@@ -10,6 +10,9 @@ use crate::questions::{
 };
 use crate::ranges::{rbbi_c_boundaries, rbbi_c_boundaries_before, rbbi_c_part, rbbi_c_segment};
 use crate::rules::{rbbi_c_properties, rbbi_c_properties_add, rbbi_c_table_compile};
+use crate::scanning::{
+    Given, rbbi_c_breaks, rbbi_c_breaks_utf16, rbbi_c_words, rbbi_c_words_utf16,
+};
 use crate::segment::Segment;
 use crate::sessions::{rbbi_c_close, rbbi_c_length, rbbi_c_open, rbbi_c_replace, rbbi_c_statuses};
 use crate::tables::{rbbi_c_table_load, rbbi_c_table_share, rbbi_c_table_write};
@@ -291,4 +294,62 @@ fn a_session_goes_through_a_filter(rt: HostRuntime) {
     let code = rbbi_c_length(memory, &mut session, &mut place);
     assert!(rt; code == codes::OK && place == 5);
     done(&rt, session);
+}
+
+#[test]
+fn a_text_that_no_session_holds_is_searched(rt: HostRuntime) {
+    let memory = rt.memory();
+    let mut fault = NO_FAULT;
+    let mut name = [0; 4];
+    let (mut table, _code) = compiled(&rt, b".;", &mut fault, &mut name);
+    let mut starts = [77; 2];
+    let mut ends = [77; 2];
+    let mut given = Given {
+        count: 77,
+        place: 77,
+    };
+    let code = rbbi_c_breaks(
+        memory,
+        &mut table,
+        b"a b",
+        0,
+        &mut ends,
+        &mut [],
+        &mut given,
+    );
+    assert!(rt; code == codes::ROOM && given.count == 2 && given.place == 2 && ends[1] == 2);
+    let code = rbbi_c_words(
+        memory,
+        &mut table,
+        b"a b",
+        0,
+        &mut starts,
+        &mut ends,
+        &mut [],
+        &mut given,
+    );
+    assert!(rt; code == codes::OK && given.count == 2 && starts[1] == 2 && ends[1] == 3);
+    let units = [0x2e, 0xdc00];
+    let code = rbbi_c_breaks_utf16(
+        memory,
+        &mut table,
+        &units,
+        0,
+        &mut ends,
+        &mut [],
+        &mut given,
+    );
+    assert!(rt; code == codes::LONE && given.count == 1 && given.place == 1 && ends[0] == 1);
+    let code = rbbi_c_words_utf16(
+        memory,
+        &mut table,
+        &units[..1],
+        0,
+        &mut starts,
+        &mut ends,
+        &mut [],
+        &mut given,
+    );
+    assert!(rt; code == codes::OK && given.count == 0 && given.place == 1);
+    done(&rt, table);
 }

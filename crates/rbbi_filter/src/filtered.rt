@@ -11,7 +11,7 @@ use crate::window::is_suppressed;
 use crate::{Abbreviations, Lists, Predicate};
 use rbbi_session::{Holds, Session, SessionBy};
 use rbbi_table::Table;
-use rbbi_text::{EditErr, Steps, UnitText};
+use rbbi_text::{EditErr, EditText, Steps};
 use std::marker::Model;
 use std::sync::ledger::Ledger;
 
@@ -26,13 +26,13 @@ pub type Filtered<'a, T, P> = Through<Suppressed<&'a Table, T, AnswersFor<'a, P>
 
 /// A session, and the abbreviations after which no boundary is reported.
 #[derive(Drop)]
-pub struct Suppressed<H: Holds, T: UnitText, A: Lists> {
+pub struct Suppressed<H: Holds, T: EditText, A: Lists> {
     /// Its cursor stands at a boundary that is reported.
     session: SessionBy<H, T>,
     held: A,
 }
 
-impl<H: Holds, T: UnitText, A: Lists> Model for Suppressed<H, T, A> {
+impl<H: Holds, T: EditText, A: Lists> Model for Suppressed<H, T, A> {
     ghost use Rattle.rbbi_filter.specs.FilterSessions.{FilterSession};
     ghost use Rattle.rbbi_filter.specs.declared.filter.Filter.TheVariants.{Suppressing};
     ghost use Rattle.rbbi_filter.specs.inner.Windows.{IsAtKept};
@@ -50,7 +50,7 @@ impl<H: Holds, T: UnitText, A: Lists> Model for Suppressed<H, T, A> {
         IsAtKept (A.list_of suppressed.held) suppressed.session.state };
 }
 
-impl<H: Holds, T: UnitText, A: Lists> Through<Suppressed<H, T, A>> {
+impl<H: Holds, T: EditText, A: Lists> Through<Suppressed<H, T, A>> {
     /// The session through the abbreviations that are held, with the cursor at 0. It takes no
     /// memory.
     pub fn past(session: SessionBy<H, T>, held: A) -> Through<Suppressed<H, T, A>>
@@ -66,7 +66,7 @@ impl<H: Holds, T: UnitText, A: Lists> Through<Suppressed<H, T, A>> {
     }
 }
 
-impl<'a, T: UnitText, P: Predicate> Through<Suppressed<&'a Table, T, AnswersFor<'a, P>>> {
+impl<'a, T: EditText, P: Predicate> Through<Suppressed<&'a Table, T, AnswersFor<'a, P>>> {
     /// The session through these abbreviations, with the cursor at 0. `keep` answers for at most
     /// 64 characters before a boundary whether they end with one of them. It takes no memory.
     pub fn open(session: Session<'a, T>, list: &'a Abbreviations, keep: P) -> Filtered<'a, T, P>
@@ -79,7 +79,7 @@ impl<'a, T: UnitText, P: Predicate> Through<Suppressed<&'a Table, T, AnswersFor<
     }
 }
 
-impl<H: Holds, T: UnitText, A: Lists> Moves for Suppressed<H, T, A> {
+impl<H: Holds, T: EditText, A: Lists> Moves for Suppressed<H, T, A> {
     type Text = T;
 
     ghost session = { λ suppressed. suppressed };

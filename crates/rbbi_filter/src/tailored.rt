@@ -12,7 +12,7 @@ use crate::{CharMap, Maps, Tailoring};
 use rbbi_cache::Cache;
 use rbbi_session::{Holds, SessionBy, character_count};
 use rbbi_table::Table;
-use rbbi_text::{Chars, EditErr, Steps, UnitText};
+use rbbi_text::{Chars, EditErr, EditText, Steps};
 use std::alloc::{AllocError, Global};
 use std::marker::Model;
 use std::sync::ledger::Ledger;
@@ -24,7 +24,7 @@ pub type Tailored<'a, T, G> = Through<Turned<&'a Table, T, TurnsBy<'a, G>>>;
 
 /// A text as it is, and boundaries that were found in the text as it is turned.
 #[derive(Drop)]
-pub struct Turned<H: Holds, T: UnitText, M: Maps> {
+pub struct Turned<H: Holds, T: EditText, M: Maps> {
     table: H,
     text: T,
     held: M,
@@ -36,7 +36,7 @@ pub struct Turned<H: Holds, T: UnitText, M: Maps> {
     cache: Cache,
 }
 
-impl<H: Holds, T: UnitText, M: Maps> Model for Turned<H, T, M> {
+impl<H: Holds, T: EditText, M: Maps> Model for Turned<H, T, M> {
     ghost use Rattle.rbbi_filter.specs.FilterSessions.{FilterSession};
     ghost use Rattle.rbbi_filter.specs.declared.filter.Filter.TheVariants.{Turning};
     ghost use Rattle.rbbi_session.specs.Scans.{IsConsistent};
@@ -56,7 +56,7 @@ impl<H: Holds, T: UnitText, M: Maps> Model for Turned<H, T, M> {
         turning.at turning.status turning.cache.runs turning.cache.slashes };
 }
 
-impl<H: Holds + Drop, T: UnitText + Drop, M: Maps + Drop> Through<Turned<H, T, M>> {
+impl<H: Holds + Drop, T: EditText + Drop, M: Maps + Drop> Through<Turned<H, T, M>> {
     /// A session over a text through the pairs that are held, with the cursor at 0. After the
     /// refusal the text is dropped.
     pub fn by(
@@ -110,7 +110,7 @@ impl<H: Holds + Drop, T: UnitText + Drop, M: Maps + Drop> Through<Turned<H, T, M
     }
 }
 
-impl<'a, T: UnitText + Drop, G: CharMap + Drop> Through<Turned<&'a Table, T, TurnsBy<'a, G>>> {
+impl<'a, T: EditText + Drop, G: CharMap + Drop> Through<Turned<&'a Table, T, TurnsBy<'a, G>>> {
     /// A session over a text, with the cursor at 0. `map` turns characters as these pairs say.
     /// After the refusal the text is dropped.
     pub fn open(
@@ -128,7 +128,7 @@ impl<'a, T: UnitText + Drop, G: CharMap + Drop> Through<Turned<&'a Table, T, Tur
     }
 }
 
-impl<H: Holds, T: UnitText, M: Maps> Moves for Turned<H, T, M> {
+impl<H: Holds, T: EditText, M: Maps> Moves for Turned<H, T, M> {
     type Text = T;
 
     ghost session = { λ turning. turning };

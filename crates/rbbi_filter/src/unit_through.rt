@@ -30,7 +30,10 @@ impl<M: Moves> Model for UnitThrough<M> {
     ghost view = { λ session. record { unit = session.unit; asked = session.asked } };
 }
 
-impl<M: Moves> UnitThrough<M> {
+impl<M: Moves> UnitThrough<M>
+where
+    M::Text: UnitText,
+{
     /// By a unit, from a session by characters. It takes no memory.
     pub fn new(asked: Through<M>, unit: Unit) -> UnitThrough<M>
         ensures { result ≡ record { unit = unit; asked = asked } }
@@ -57,7 +60,10 @@ impl<M: Moves> UnitThrough<M> {
     }
 }
 
-impl<M: Moves> Walk for UnitThrough<M> {
+impl<M: Moves> Walk for UnitThrough<M>
+where
+    M::Text: UnitText,
+{
     ghost use Rattle.rbbi_filter.specs.UnitFilters.{UnitFilterSetting, unit_filter_view};
 
     type Text = M::Text;

@@ -131,12 +131,12 @@ set_named files bounds statements here row writer (Expression meaning height) is
 -- and its leaf stands there
 pub written_stands : (context : Context) (leaves : FileLeaves) (writer : ℕ) (value : Option model.SetTree) → IsReady context leaves →
     IsWritten (files_of context) (statement_trees context.statements.now) writer value →
-    StandFrom context leaves (slice_index leaves.firsts.items writer) (value ∷ [])
+    StandFrom context leaves (slice_index leaves.firsts.now.items writer) (value ∷ [])
 written_stands context leaves writer value ready w =
-    subst (StandFrom context leaves (slice_index leaves.firsts.items writer)) w.leaf (ready.stand writer _ w.assigned.at)
+    subst (StandFrom context leaves (slice_index leaves.firsts.now.items writer)) w.leaf (ready.stand writer _ w.assigned.at)
 
 pub written_inside : (context : Context) (leaves : FileLeaves) (writer : ℕ) (value : Option model.SetTree) → IsReady context leaves →
-    IsWritten (files_of context) (statement_trees context.statements.now) writer value → writer < length leaves.firsts.items
+    IsWritten (files_of context) (statement_trees context.statements.now) writer value → writer < length leaves.firsts.now.items
 written_inside context leaves writer value ready w =
     let within = slice_get_within (statement_trees context.statements.now) writer _ w.assigned.at in
     let long : length (statement_trees context.statements.now) ≡ length context.statements.now = simp length-map in

@@ -17,7 +17,6 @@ ghost use Rattle.rbbi_resolve.specs.inner.Readings.{IsReading, HasLeaves};
 ghost use Rattle.rbbi_resolve.specs.Outcomes.{Means};
 
 use crate::build::{Builder, FileLeaves};
-use crate::classes::Classes;
 use crate::context::Context;
 use crate::file::Reading;
 use crate::rules::{Rule, Rules, SetList, Tree};
@@ -134,46 +133,36 @@ fn rules_with_trees(
 }
 
 /// The rules of a file that was read and has no fault.
-pub(crate) fn build_rules(alloc: Global, reading: Reading) -> Result<Rules, AllocError>
-    requires reading { IsReading reading (length reading.statements.now) }
-    requires leaves { HasLeaves reading (length reading.statements.now) }
-    requires well_made { AreWellMade (statement_trees reading.statements.now) }
-    requires faultless { faults_of reading.table.now reading.dictionary_ignored
-        (statement_trees reading.statements.now) ≡ [] }
-    requires few { (end : ℕ) × (size_fault end (active_rules reading.table.now
-        (statement_trees reading.statements.now)) ≡ None) }
-    ensures means { IfOk result (λ rules. Means reading.entry.table.now
-        reading.entry.dictionary_ignored
-        (statement_trees reading.entry.statements.now) (rules_of rules)) }
+pub(crate) fn build_rules(alloc: Global, reading: &Reading) -> Result<Rules, AllocError>
+    requires reading { IsReading reading.now (length reading.now.statements.now) }
+    requires leaves { HasLeaves reading.now (length reading.now.statements.now) }
+    requires well_made { AreWellMade (statement_trees reading.now.statements.now) }
+    requires faultless { faults_of reading.now.table.now reading.now.dictionary_ignored
+        (statement_trees reading.now.statements.now) ≡ [] }
+    requires few { (end : ℕ) × (size_fault end (active_rules reading.now.table.now
+        (statement_trees reading.now.statements.now)) ≡ None) }
+    ensures means { IfOk result (λ rules. Means reading.now.table.now
+        reading.now.dictionary_ignored
+        (statement_trees reading.now.statements.now) (rules_of rules)) }
     ensures lawful { IfOk result (λ rules. AreLawful (rules_of rules)) }
 {
-    let Reading {
-        statements,
-        table,
-        variables,
-        classes,
-        leaves,
-        firsts,
-        counts,
-        ..
-    } = reading;
     let context = Context {
-        table,
-        statements,
-        variables: &variables,
-        classes: &classes,
-        limit: statements.len(),
+        table: reading.table,
+        statements: reading.statements,
+        variables: &reading.variables,
+        classes: &reading.classes,
+        limit: reading.statements.len(),
         quoted_only: false,
     };
     let leaves = FileLeaves {
-        rows: leaves.rows,
-        firsts,
+        rows: &reading.leaves.rows,
+        firsts: &reading.firsts,
     };
     let mut builder = Builder::new(alloc, &leaves)?;
     let rules = rules_with_trees(alloc, &context, &leaves, &mut builder)?;
-    let Builder { rows, .. } = builder;
-    let Classes { division, .. } = classes;
-    let sets = SetList::of_rows(division, rows);
+    let division = reading.classes.division.clone()?;
+    let sets = SetList::of_rows(division, builder.rows);
+    let counts = &reading.counts;
     Ok(Rules::new(rules, sets, counts.leaves.sum, counts.slashes.sum))
 }
 

@@ -31,12 +31,12 @@ use std::alloc::{AllocError, Global};
 const MOST_SETS: usize = 4_294_967_295;
 
 /// The leaves of a file.
-#[derive(Drop)]
-pub(crate) struct FileLeaves {
+#[derive(Clone, Copy)]
+pub(crate) struct FileLeaves<'a> {
     /// Of each leaf its value by classes, where it has one.
-    pub(crate) rows: Vec<Option<ClassSet>>,
+    pub(crate) rows: &'a Vec<Option<ClassSet>>,
     /// For each statement the number of its first leaf.
-    pub(crate) firsts: Vec<usize>,
+    pub(crate) firsts: &'a Vec<usize>,
 }
 
 /// The sets of the leaves so far.
@@ -73,9 +73,9 @@ impl Builder {
     ) -> Result<u32, AllocError>
         requires builder { IsBuilder context.now leaves.now self.old }
         requires row { IsLawfulRow (division_of context.now)
-            (slice_get leaves.now.rows.items place) }
+            (slice_get leaves.now.rows.now.items place) }
         ensures on { OnOk result (Extends context.now leaves.now self.old self.new) }
-        ensures number { IfOk result (λ number. (row : ClassBits) → slice_get leaves.now.rows.items
+        ensures number { IfOk result (λ number. (row : ClassBits) → slice_get leaves.now.rows.now.items
             place ≡ Some (Some row) → slice_get self.new.rows.items number ≡ Some row) }
         ensures fresh { IfOk result (λ number. (k : ℕ) → length self.old.rows.items ≤ k
             → k < length self.new.rows.items → k ≡ number) }

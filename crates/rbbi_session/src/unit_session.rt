@@ -30,7 +30,7 @@ pub type UnitSession<'a, T> = UnitSessionBy<&'a Table, T>;
 /// A [`UnitSession`] by a table that is borrowed or shared.
 #[derive(Drop)]
 pub struct UnitSessionBy<H: Holds, T: UnitText> {
-    /// The session by characters. Who goes on with it directly puts its cursor back.
+    /// The session by characters. A caller that goes on with it directly puts its cursor back.
     pub asked: SessionBy<H, T>,
     /// The unit of places.
     pub unit: Unit,

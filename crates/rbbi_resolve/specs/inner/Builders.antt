@@ -35,7 +35,7 @@ IsSetRow files division (Some tree) (Some row) = IsSetOfLeaf files tree (charact
 
 -- the leaves of the file from this number on are these, and have sets
 abbrev pub StandFrom : Context → FileLeaves → ℕ → List (Option model.SetTree) → Type 0
-StandFrom context leaves number values = StandAt (IsSetRow (files_of context) (division_of context)) leaves.rows.items number values
+StandFrom context leaves number values = StandAt (IsSetRow (files_of context) (division_of context)) leaves.rows.now.items number values
 
 -- each leaf has a set that it may have
 abbrev pub HasLawfulLeaves : spelling.Tree → Type 0
@@ -82,9 +82,9 @@ JoinsFrom make first old new = (before parts : List Tree) → first ≡ length b
 pub record IsBuilder (context : Context) (leaves : FileLeaves) (builder : Builder) : Type 0 where
   pub few : length builder.rows.items ≤ 4294967295
   pub formed : AllByRecursion IsLeafSet (sets_of context builder.rows.items)
-  pub long : length builder.numbers.items ≡ length leaves.rows.items
+  pub long : length builder.numbers.items ≡ length leaves.rows.now.items
   pub each : (place number : ℕ) (row : ClassBits) → slice_get builder.numbers.items place ≡ Some (Some number) →
-      slice_get leaves.rows.items place ≡ Some (Some row) → slice_get builder.rows.items number ≡ Some row
+      slice_get leaves.rows.now.items place ≡ Some (Some row) → slice_get builder.rows.items number ≡ Some row
 
 -- sets were added
 pub record Extends (context : Context) (leaves : FileLeaves) (before after : Builder) : Type 0 where
@@ -97,7 +97,7 @@ pub record IsReady (context : Context) (leaves : FileLeaves) : Type 0 where
   pub end : ℕ
   pub variables : AreVariables (files_of context) (bounds_of context) (statement_trees context.statements.now) context.variables.now end
   pub low : context.limit ≤ end
-  pub long : length leaves.firsts.items ≡ length context.statements.now
+  pub long : length leaves.firsts.now.items ≡ length context.statements.now
   pub stand : (number : ℕ) (s : StatementTree) → slice_get (statement_trees context.statements.now) number ≡ Some s →
-      StandFrom context leaves (slice_index leaves.firsts.items number)
+      StandFrom context leaves (slice_index leaves.firsts.now.items number)
       (leaves_of_statement (context_at (files_of context) (statement_trees context.statements.now) number) s)

@@ -37,8 +37,8 @@ pub returns-in-Ok-clause-complete : goal.returns-in-Ok-clause-complete
 returns-in-Ok-clause-complete c =
     λ table valid spelled. c.in-Ok.ensures.0 ∙ same_valid c.args.bytes.now (table_of c.in_ok-parts.parts) table c.in_ok-parts.ensures valid spelled
 
-pub returns-in_default-error : goal.returns-in_default-error
-returns-in_default-error c =
+pub returns : goal.returns
+returns c =
     let bad : IsFirstBad (version_in c.args.bytes.now) (table_of c.in_ok-parts.parts) c.in-Err.error =
     inr (rw c.if-not-has_tables.false at c.has_tables.ensures, c.in-Err.ensures, c.in_default-error.not-Memory) in
     record {

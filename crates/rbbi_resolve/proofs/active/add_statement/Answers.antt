@@ -79,20 +79,20 @@ returns-then-not-switches c =
 
 -- its leaves stand from the first one on
 stand : (c : In-Rule) →
-    StandFrom c.args.context.now c.args.leaves.now (slice_index c.args.leaves.now.firsts.items c.args.context.now.limit)
+    StandFrom c.args.context.now c.args.leaves.now (slice_index c.args.leaves.now.firsts.now.items c.args.context.now.limit)
     (leaves_of_expr (context_of c.args.context.now) (expr_tree c.in-Rule.front))
     × StandFrom c.args.context.now c.args.leaves.now
-    (slice_index c.args.leaves.now.firsts.items c.args.context.now.limit
+    (slice_index c.args.leaves.now.firsts.now.items c.args.context.now.limit
     + length (leaves_of_expr (context_of c.args.context.now) (expr_tree c.in-Rule.front)))
     (leaves_of_rest (context_of c.args.context.now) (rest_tree c.in-Rule.rest))
 stand c =
     let context = c.args.context.now in
-    stand_parts (IsSetRow (files_of context) (division_of context)) c.args.leaves.now.rows.items _ _ _ (c.requires.ready.stand context.limit _ (rule_at c))
+    stand_parts (IsSetRow (files_of context) (division_of context)) c.args.leaves.now.rows.now.items _ _ _ (c.requires.ready.stand context.limit _ (rule_at c))
 
 pub tree_of_expr-requires-clause-stand : goal.tree_of_expr-requires-clause-stand
 tree_of_expr-requires-clause-stand c =
     let context = c.args.context.now in
-    let firsts = c.args.leaves.now.firsts.items in
+    let firsts = c.args.leaves.now.firsts.now.items in
     let first : c.index.result.now ≡ slice_index firsts context.limit =
     c.index.ensures ∙ get_or_default_zero firsts context.limit c.index.result.now (omega (arith, c.requires.ready.long, c.requires.inside)) in
     subst (λ n. StandFrom context c.args.leaves.now n (leaves_of_expr (context_of context) (expr_tree c.in-Rule.front))) (sym first)
@@ -101,7 +101,7 @@ tree_of_expr-requires-clause-stand c =
 pub tree_of_rest-requires-clause-stand : goal.tree_of_rest-requires-clause-stand
 tree_of_rest-requires-clause-stand c =
     let context = c.args.context.now in
-    let firsts = c.args.leaves.now.firsts.items in
+    let firsts = c.args.leaves.now.firsts.now.items in
     let front = leaves_of_expr (context_of context) (expr_tree c.in-Rule.front) in
     let first : c.index.result.now ≡ slice_index firsts context.limit =
     c.index.ensures ∙ get_or_default_zero firsts context.limit c.index.result.now (omega (arith, c.requires.ready.long, c.requires.inside)) in

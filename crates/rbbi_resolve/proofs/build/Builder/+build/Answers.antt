@@ -30,7 +30,7 @@ add_definition-add_expr-requires t c =
     let low = c.requires.low e c.in-Some.ensures.some in
     let ready = c.requires.ready in
     let builder = c.requires.builder in
-    let firsts = c.args.leaves.now.firsts.items in
+    let firsts = c.args.leaves.now.firsts.now.items in
     let first : c.index.result.now ≡ slice_index firsts context.limit =
     c.index.ensures ∙ get_or_default_zero firsts context.limit c.index.result.now (omega (arith, ready.long, c.requires.inside)) in
     let stand = subst (λ n. StandFrom context c.args.leaves.now n (leaves_of_expr (context_of context) e)) (sym first) (ready.stand context.limit _ at) in
@@ -69,7 +69,7 @@ add_expr-add_seq-requires t c =
     let low : height_of_seq k (seq_tree p) ≤ 256 = omega (arith, c.requires.low) in
     let builder = l.invariant.goes.builder in
     let ready = c.requires.ready in
-    let stand = (stand_parts (IsSetRow (files_of context) (division_of context)) c.args.leaves.now.rows.items l.next (leaves_of_seq k (seq_tree p))
+    let stand = (stand_parts (IsSetRow (files_of context) (division_of context)) c.args.leaves.now.rows.now.items l.next (leaves_of_seq k (seq_tree p))
     (leaves_of_expr k (expr_of (map seq_tree (drop (l.seq-index + 1) xs))))
     (subst (λ x. StandFrom context c.args.leaves.now l.next (leaves_of_expr k x)) (exprs_left xs l.seq-index p inside c.seq-item.is) l.invariant.stand)).0 in
     search rules
@@ -132,7 +132,7 @@ add_seq-add_item-requires t c =
     let low : height_of_item k (item_tree p) ≤ 256 = omega (arith, c.requires.low) in
     let builder = l.invariant.goes.builder in
     let ready = c.requires.ready in
-    let stand = (stand_parts (IsSetRow (files_of context) (division_of context)) c.args.leaves.now.rows.items l.next (leaves_of_item k (item_tree p))
+    let stand = (stand_parts (IsSetRow (files_of context) (division_of context)) c.args.leaves.now.rows.now.items l.next (leaves_of_item k (item_tree p))
     (leaves_of_seq k (seq_of (map item_tree (drop (l.item-index + 1) xs))))
     (subst (λ x. StandFrom context c.args.leaves.now l.next (leaves_of_seq k x)) (seqs_left xs l.item-index p inside c.item-item.is) l.invariant.stand)).0 in
     search rules

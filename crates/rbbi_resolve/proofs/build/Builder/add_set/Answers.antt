@@ -11,7 +11,7 @@ use Rattle.rbbi_resolve.proofs.build.Builder.add_set.Goals.{After-index}
 pub index-requires : goal.index-requires
 index-requires c =
     let inside = written_inside c.args.context.now c.args.leaves.now c.args.writer _ c.requires.ready c.requires.written.1 in
-    omega (arith, c.args.leaves.now.firsts.ok.0)
+    omega (arith, c.args.leaves.now.firsts.now.ok.0)
 
 -- the leaf stands at the statement's first number
 stands : (c : After-index) (value : Option SetTree) →
@@ -21,8 +21,8 @@ stands c value written =
     let context = c.args.context.now in
     let leaves = c.args.leaves.now in
     let inside = written_inside context leaves c.args.writer value c.requires.ready written in
-    let first : c.index.result.now ≡ slice_index leaves.firsts.items c.args.writer =
-    c.index.ensures ∙ get_or_default_zero leaves.firsts.items c.args.writer c.index.result.now inside in
+    let first : c.index.result.now ≡ slice_index leaves.firsts.now.items c.args.writer =
+    c.index.ensures ∙ get_or_default_zero leaves.firsts.now.items c.args.writer c.index.result.now inside in
     subst (λ n. StandFrom context leaves n (value ∷ [])) (sym first) (written_stands context leaves c.args.writer value c.requires.ready written)
 
 pub add_leaf-requires-clause-stand : goal.add_leaf-requires-clause-stand

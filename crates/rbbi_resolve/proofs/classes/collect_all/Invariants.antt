@@ -2,7 +2,7 @@ use Rattle.std.proofs.Common.{◌≡◌, ℕ, ◌<◌, Some, slice_get}
 use Rattle.rbbi_tree.specs.Trees.{StatementTree}
 use Rattle.rbbi_tree.specs.Values.{statement_trees}
 use Rattle.rbbi_resolve.specs.inner.Covered.{AreCovered, AreRespected, IsCollection, parts_of_statement}
-use Rattle.rbbi_resolve.proofs.classes.Classes.of.Given as goal
+use Rattle.rbbi_resolve.proofs.classes.collect_all.Given as goal
 
 abbrev pub invariant-loop-number : goal.invariant-loop-number
 invariant-loop-number l = record {
