@@ -3,7 +3,7 @@ ghost use Rattle.std.specs.Prelude.{◌≡◌, ◌<◌};
 
 use crate::case::{Case, Counted, Wanted};
 use rbbi_io::MemFiles;
-use rbbi_segment::{Sizes, Surroundings, System, segment};
+use rbbi_segment::{CommandLine, Sizes, Surroundings, System, segment};
 use rbbi_text::Steps;
 use rbbi_tool::rbbi;
 use std::alloc::{AllocError, Global};
@@ -12,15 +12,12 @@ use std::marker::Brand;
 use std::sync::ledger::{Blank, Ledger};
 
 /// No terminal is anywhere.
-fn surroundings(block: u32) -> Surroundings {
+fn surroundings(sizes: Sizes) -> Surroundings {
     Surroundings {
         output_is_terminal: false,
         errors_are_on_terminal: false,
         no_color: false,
-        sizes: Sizes {
-            block,
-            ..Sizes::USUAL
-        },
+        sizes,
     }
 }
 
@@ -55,11 +52,12 @@ fn status_by<L: Ledger>(alloc: Global, case: &mut Case, steps: &mut Steps<L>) ->
     if !case.is_segment {
         return rbbi(alloc, &case.words, &mut case.files, &mut case.out, steps);
     }
-    let surroundings = surroundings(case.block);
+    let surroundings = surroundings(case.sizes);
     let system = Memory { texts: &case.texts };
+    let line = CommandLine::parse(alloc, &case.words);
     segment(
         alloc,
-        &case.words,
+        &line,
         surroundings,
         &system,
         &mut case.files,
