@@ -1,6 +1,7 @@
 /*
  * Each allocation refused in turn: a call answers RBBI_MEMORY, leaves what there was, and does its work
- * when it is made again. Linked with -Wl,--wrap=malloc,--wrap=realloc over the static library.
+ * when it is made again. And no question allocates. Linked with -Wl,--wrap=malloc,--wrap=realloc over
+ * the static library.
  */
 #include <rbbi.h>
 #include <stdio.h>
@@ -13,7 +14,11 @@ void *__real_realloc(void *block, size_t size);
 /* How many allocations there are up to the one that is refused; 0 after it. */
 static long left;
 
+/* How many were asked for. */
+static long asked;
+
 static int refused(void) {
+    asked++;
     return left > 0 && --left == 0;
 }
 
@@ -52,6 +57,39 @@ static int place_of(rbbi_session *session, uint32_t from) {
     uint32_t place = 0;
     int answer = rbbi_session_following(session, from, &place);
     return answer == RBBI_OK ? (int)place : -answer;
+}
+
+/* How many allocations the questions at each 7th place of a session make: there are to be none. */
+static long asked_by_questions(rbbi_session *session) {
+    long before = asked;
+    uint32_t number, length = 0, from, to, resume, room[9], other[9];
+    size_t count;
+    rbbi_session_length(session, &length);
+    for (uint32_t at = 0; at <= length; at += 7) {
+        rbbi_session_first(session, &number);
+        rbbi_session_next(session, &number);
+        rbbi_session_last(session, &number);
+        rbbi_session_previous(session, &number);
+        rbbi_session_following(session, at, &number);
+        rbbi_session_preceding(session, at, &number);
+        rbbi_session_is_boundary(session, at, &number);
+        rbbi_session_current(session, &number);
+        rbbi_session_status(session, &number);
+        rbbi_session_statuses(session, room, 9, &count);
+        rbbi_session_boundaries(session, at, length, room, other, 9, &count, &resume);
+        rbbi_session_boundaries_before(session, at, 0, room, other, 9, &count, &resume);
+        rbbi_session_segment(session, at, &from, &to, &number);
+    }
+    return asked - before;
+}
+
+/* The same of a tally. */
+static long asked_by_counts(rbbi_tally *tally) {
+    long before = asked;
+    uint32_t number;
+    rbbi_tally_segments(tally, &number);
+    rbbi_tally_count(tally, 100, &number);
+    return asked - before;
 }
 
 int main(void) {
@@ -93,6 +131,7 @@ int main(void) {
         wrong |= length != 4 || memcmp(file, "aa11", 4) != 0;
         DONE(rbbi_session_replace_utf16(&session, 0, 1, wide, 2, NULL));
         wrong |= place_of(&session, 0) != 1 || place_of(&session, 4) != 1002;
+        wrong |= asked_by_questions(&session) != 0;
         uint64_t starts[2] = {77, 77}, ends[2] = {77, 77}, resume = 77;
         uint32_t greatest[2] = {77, 77};
         answer = rbbi_breaks(&other, text, sizeof text, 0, ends, greatest, 2, &length, &resume);
@@ -119,13 +158,15 @@ int main(void) {
         uint32_t statuses[2] = {0, 0}, counts[2] = {0, 0};
         DONE(rbbi_tally_each(&tally, statuses, counts, 2, &length));
         wrong |= length != 2 || statuses[0] != 100 || counts[0] != 1 || counts[1] != 2;
+        wrong |= asked_by_counts(&tally) != 0;
         rbbi_tally_close(&tally);
         DONE(rbbi_session_tailor(&session, "00E9;0061\n", 10, NULL));
-        wrong |= place_of(&session, 1) != 1002;
+        wrong |= place_of(&session, 1) != 1002 || asked_by_questions(&session) != 0;
         DONE(rbbi_session_open(&copy, &other, text, sizeof text, RBBI_UTF8));
         DONE(rbbi_session_replace(&copy, 4, 3, " 1 ", 3));
         DONE(rbbi_session_suppress(&copy, "1\n", 2, NULL));
         wrong |= place_of(&copy, 4) != 5 || place_of(&copy, 5) != 3000;
+        wrong |= asked_by_questions(&copy) != 0;
         rbbi_session_close(&copy);
         rbbi_files_close(&files);
         rbbi_table_close(&table);

@@ -236,8 +236,8 @@ int rbbi_session_fork(rbbi_session *session, rbbi_session *copy);
 
 void rbbi_session_close(rbbi_session *session);
 
-/* ---- filters: what stands between a text and its boundaries as they are reported. These calls turn
-   an open session into one through a filter, over the same text and table, in the same unit; it
+/* ---- filters, which suppress boundaries or map characters before a search. These calls turn an
+   open session into one through a filter, over the same text and table, in the same unit; it
    copies no text. The cursor goes to 0. From then on all calls below serve the session but
    rbbi_session_replace_changed, rbbi_session_boundaries, rbbi_session_boundaries_before and
    rbbi_session_segment. Those, rbbi_session_fork and a second filter answer RBBI_FILTERED.
@@ -249,7 +249,7 @@ void rbbi_session_close(rbbi_session *session);
 int rbbi_session_suppress(rbbi_session *session, const void *list, size_t length,
                           rbbi_fault *fault);
 
-/* From now on the boundaries are those of the text with its characters turned by these pairs. The
+/* From now on the boundaries are those of the text with its characters mapped by these pairs. The
    text stays as it is. `pairs` is a file of pairs of characters, one a line (docs/formats.md). */
 int rbbi_session_tailor(rbbi_session *session, const void *pairs, size_t length,
                         rbbi_fault *fault);

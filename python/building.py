@@ -38,7 +38,7 @@ def library():
 
 
 def version_of(path):
-    """The version that a library tells of itself."""
+    """The version that a library reports."""
     call = ctypes.CDLL(str(path)).rbbi_version
     call.restype = ctypes.c_char_p
     return call().decode()

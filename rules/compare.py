@@ -3,6 +3,7 @@
 
     compare.py [--15.0] [--data FOLDER] [--tests FOLDER] [--texts N] [--seed N] [--batch N]
                [--only NAME [--classes CLASS,..]] [--kit PROGRAM] [COMMAND WORD..]
+    compare.py --only NAME --without RULE,.. [--instead LINE]..
 
 First each model is run over Unicode's test file of 15.0, which --tests has, and must differ where
 README.md lists a line as changed since. Then N random texts of each of two sorts are broken by the
@@ -16,6 +17,10 @@ The engine is a command with words, `bin/rbbi breaks` where none is given. It ge
 in all four annexes nothing in front of a line feed counts behind it. With --kit the program that
 crates/rbbi_unicode makes breaks the texts too: by the kit's `unicode_segmentation`, and for lines by
 the definition of crates/rbbi_annexes, with statuses and over the tests too.
+
+With --without no text is broken. The tests are run with the model without these rules, or with the lines
+of --instead in their place, and it prints how many lines that come out right by the whole model then don't:
+how many lines confirm these rules.
 
 The data are those of unicode/. With --15.0 the rules and models are those of Unicode 15.0, and FOLDER
 holds its data. The status is 1 where anything differs.
@@ -56,6 +61,19 @@ def check_tests(model, arguments):
             print(f'{model.name}: line {number} of the tests comes out as it must not')
     print(f'{model.name}: model over the tests: {tests}, of which changed {len(changed)} wrong {wrong}')
     return wrong
+
+
+def count_confirming(make, arguments):
+    """Prints how many tests come out right by the whole model alone, and not without some of its rules."""
+    whole, other = (make(arguments.data, arguments.is_15) for _ in range(2))
+    lines, left_out = whole.text.strip().split('\n'), arguments.without.split(',')
+    first = next(at for at, line in enumerate(lines) if line.split()[0] in left_out)
+    lines[first:first] = arguments.instead
+    other.read('\n'.join(line for line in lines if line in arguments.instead or line.split()[0] not in left_out))
+    tests = list(read_tests(whole.name, arguments.tests))
+    right = [(number, text, marks) for number, text, marks in tests if whole.boundaries(text) == marks]
+    lost = [number for number, text, marks in right if other.boundaries(text) != marks]
+    print(f'{whole.name}: tests {len(tests)} right {len(right)}, of which {len(lost)} not without {arguments.without}')
 
 
 def draw_text(model, source, few, classes=()):
@@ -191,13 +209,18 @@ def main():
     parser.add_argument('--only', default='')
     parser.add_argument('--classes', default=(), type=lambda word: word.split(','))
     parser.add_argument('--kit')
+    parser.add_argument('--without', default='')
+    parser.add_argument('--instead', action='append', default=[])
     parser.add_argument('command', nargs=argparse.REMAINDER)
     arguments = parser.parse_args()
     arguments.data = arguments.data or (arguments.tests if arguments.is_15 else files.DATA)
     command = arguments.command or [os.path.join(files.HERE, '..', 'bin', 'rbbi'), 'breaks']
     differing = 0
     for make in models.MODELS:
-        if arguments.only in ('', make.__name__):
+        if arguments.without:
+            if arguments.only == make.__name__:
+                count_confirming(make, arguments)
+        elif arguments.only in ('', make.__name__):
             model = make(arguments.data, arguments.is_15)
             differing += check_tests(model, arguments)
             if arguments.kit and model.name == 'line' and not arguments.is_15:

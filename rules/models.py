@@ -254,6 +254,7 @@ class Model:
 
     def read(self, text):
         """Reads the lines of an annex."""
+        self.text = text
         self.macros, self.first, self.rules = {}, [], []
         self.skipped = self.never = self.alone = None
         for line in text.strip().split('\n'):

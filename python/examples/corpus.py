@@ -2,8 +2,8 @@
 
     corpus.py TABLE FOLDER [WORKERS]
 
-TABLE is a table file, or the name of a table that is in the library, as word. A word is a segment whose
-end has a status other than 0, as for letters, digits and ideographs by the rules of UAX #29. With
+TABLE is a table file, or the name of a table that is in the library, as word. A word is a segment with
+a status other than 0, as letters, digits and ideographs have by the rules of UAX #29. With
 WORKERS the documents are mapped over so many processes by Dask, each of which loads the table once;
 without, all is done in this one. The output is the same: a line for each document, by name, with its
 number of characters and of words.

@@ -42,11 +42,23 @@ fn tell_silent_end(rt: &HostRuntime, status: u8, files: &RealFiles<'_, HostRunti
     let _ = eprintln!(rt; "rbbi: {cause}{table}");
 }
 
+/// The exit status where the system doesn't give the arguments, and why it doesn't.
+fn refusal(fault: &io::Error) -> (u8, &'static str) {
+    match fault.kind() {
+        ErrorKind::OutOfMemory => (8, "memory ran out"),
+        ErrorKind::InvalidData => (9, "an argument is not UTF-8"),
+        _ => (9, "the system does not give the arguments"),
+    }
+}
+
 fn main(rt: HostRuntime) -> ExitCode {
     let status = match words(&rt) {
         Ok(words) => run::<Brand>(&rt, &words, Blank::new(1)),
-        Err(fault) if fault.kind() == ErrorKind::OutOfMemory => 8,
-        Err(_) => 9,
+        Err(fault) => {
+            let (status, cause) = refusal(&fault);
+            let _ = eprintln!(rt; "rbbi: {cause}");
+            status
+        }
     };
     ExitCode::from(status)
 }

@@ -261,13 +261,24 @@ const READS: [(&[Option<usize>], ErrorKind, &str); 5] = [
     (&[None, Some(3)], ErrorKind::OutOfMemory, "Memory"),
 ];
 
+/// Whether the fault of a read is kept that was refused for one, and no other.
+fn is_kept(kept: Option<io::Error>, fault: ErrorKind, name: &str) -> bool {
+    let is_refused = name == "Failed" || name == "Memory";
+    match kept {
+        Some(kept) => is_refused && kept.kind() == fault,
+        None => !is_refused,
+    }
+}
+
 #[test]
 fn open_files(rt: HostRuntime) {
     for row in &READS {
         let (answers, fault, wanted) = *row;
         let mut file = Told::new(rt.alloc(), answers, fault).expect(&rt, "a reader");
+        let mut kept = None;
+        let answer = read_at_most(rt.alloc(), &mut file, 4, &mut kept);
         assert!(rt;
-            is_read(&rt, &read_at_most(rt.alloc(), &mut file, 4), wanted),
+            is_read(&rt, &answer, wanted) && is_kept(kept, fault, wanted),
             "{wanted}"
         );
     }
@@ -283,6 +294,7 @@ fn are_whole<F: Files>(host: &HostRuntime, files: &mut F, name: &str, bytes: &st
 fn is_refused<F: Files>(host: &HostRuntime, files: &mut F) -> bool {
     let name = "no/such/file";
     is_read(host, &files.read(host.alloc(), name, 9), "Failed")
+        && matches!(files.read_fault(), Some(fault) if fault.kind() == ErrorKind::NotFound)
         && is_written(&files.write(name, b"a"), "Failed")
 }
 

@@ -3,7 +3,7 @@ ghost use Rattle.std.specs.Prelude.{length};
 ghost use Rattle.rbbi_bits.specs.BitRows.{IsSpan};
 
 /// The words of a row from `from` up to, but not including, `to`. The row's other words are 0.
-#[derive(Clone, Copy, Debug)]
+#[derive(Clone, Copy)]
 pub struct Span {
     pub from: usize,
     pub to: usize,

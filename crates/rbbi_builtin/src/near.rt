@@ -10,7 +10,7 @@ use std::alloc::{AllocError, Global};
 use strsim::levenshtein;
 
 /// What isn't known of a property.
-#[derive(Clone, Copy, Debug, PartialEq, Eq)]
+#[derive(Clone, Copy, PartialEq, Eq)]
 pub enum Unknown {
     /// No general category, script or binary property has the name, which stands alone.
     Name,

@@ -17,7 +17,7 @@ use ucd_emoji::runs::extended_pictographic;
 use ucd_script::Script;
 
 /// A property that is built in.
-#[derive(Clone, Copy, Debug, PartialEq, Eq)]
+#[derive(Clone, Copy, PartialEq, Eq)]
 pub enum Property {
     GeneralCategory,
     Script,

@@ -1,7 +1,6 @@
 pub mod Values
 pub mod Handles
 pub mod Desks
-pub mod FilterJobs
 pub mod Within
 pub mod Found
 pub mod Listed
@@ -11,3 +10,4 @@ pub mod Spelled
 pub mod Compiled
 pub mod Telling
 pub mod Stretched
+pub mod ThroughDesks

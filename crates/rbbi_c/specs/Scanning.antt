@@ -21,7 +21,7 @@ code_of fault (stop.Fault at) = fault
 code_of fault stop.Far = 7
 code_of fault stop.Memory = 9
 
--- the place that is reported: that of a fault, or else the one to go on from
+-- the place that C gets: that of a fault, or else the one to go on from
 abbrev pub place_of : ℕ → Stop → ℕ
 place_of resume stop.End = resume
 place_of resume stop.Room = resume
@@ -39,7 +39,7 @@ fault_code Chars = 8
 fault_code Utf8 = 8
 fault_code Utf16 = 13
 
--- what follows the place is written, and how far and why no more is reported
+-- what follows the place is given, and C gets how far and why no more
 pub record IsScanned (unit : TextUnit) (only_words : Bool) (table : BreakTable) (units : List ℕ) (from : ℕ) (before after : Columns) (code : ℕ)
     (told : Given) : Type 0 where
   pub reached : Reached

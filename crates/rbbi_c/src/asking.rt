@@ -5,12 +5,13 @@ ghost use Rattle.rbbi_session.specs.Sessions.{place_reply};
 ghost use Rattle.rbbi_session.specs.Walks.{IsAsked, reply_to};
 ghost use Rattle.rbbi_session.specs.UnitWalks.{unit_view};
 
-use rbbi_session::{UnitSession, Walk};
+use crate::shared::SharedTable;
+use rbbi_session::{UnitSessionBy, Walk};
 use rbbi_text::{Pieces, Steps};
 use std::sync::ledger::Ledger;
 
 /// A question to a session.
-#[derive(Clone, Copy, Debug)]
+#[derive(Clone, Copy)]
 pub(crate) enum Ask {
     First,
     Last,
@@ -24,7 +25,7 @@ pub(crate) enum Ask {
 }
 
 /// What is reported of a reply: a number, or that there is no such boundary.
-#[derive(Clone, Copy, Debug)]
+#[derive(Clone, Copy)]
 pub(crate) enum Told {
     Number(u32),
     Done,
@@ -43,7 +44,7 @@ pub(crate) fn found(place: Option<u32>) -> Told
 /// Asks a session.
 #[inline(always)]
 pub(crate) fn answered<L: Ledger>(
-    session: &mut UnitSession<'_, Pieces>,
+    session: &mut UnitSessionBy<SharedTable, Pieces>,
     asked: Ask,
     steps: &mut Steps<L>,
 ) -> Told

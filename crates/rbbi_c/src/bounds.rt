@@ -11,13 +11,14 @@ ghost use Rattle.rbbi_model.specs.Searches.{table_boundaries};
 ghost use Rattle.rbbi_c.specs.inner.Bounds.{HasSameText, IsBound, IsHere, Finds};
 ghost use Rattle.rbbi_c.specs.inner.Bounds.{place_of, up_to, down_to};
 
-use rbbi_session::{Session, greatest};
+use crate::shared::SharedTable;
+use rbbi_session::{SessionBy, greatest};
 use rbbi_table::{FrontPlaces, Table};
 use rbbi_text::{Chars, Near, Pieces, Steps, Unit, UnitText};
 use std::sync::ledger::Ledger;
 
 /// A boundary.
-#[derive(Clone, Copy, Debug)]
+#[derive(Clone, Copy)]
 pub(crate) struct Bound {
     /// Its place, in characters from 0.
     pub(crate) at: u32,
@@ -94,7 +95,11 @@ pub(crate) fn counted_on<T: Chars, L: Ledger>(
 }
 
 /// The boundary at the cursor, where a place was found.
-fn found_here(session: &Session<'_, Pieces>, unit: Unit, place: Option<u32>) -> Option<Bound>
+fn found_here(
+    session: &SessionBy<SharedTable, Pieces>,
+    unit: Unit,
+    place: Option<u32>,
+) -> Option<Bound>
     ensures { MatchOption place (result ≡ None) (λ _. IsHere session.now unit result) }
 {
     match place {
@@ -104,7 +109,7 @@ fn found_here(session: &Session<'_, Pieces>, unit: Unit, place: Option<u32>) -> 
 }
 
 /// The boundary at the cursor.
-fn here(session: &Session<'_, Pieces>, unit: Unit) -> Bound
+fn here(session: &SessionBy<SharedTable, Pieces>, unit: Unit) -> Bound
     ensures at { result.at ≡ session.now.state.cursor }
     ensures bound { IsBound session.now.table unit session.now.state.text result }
 {
@@ -118,7 +123,7 @@ fn here(session: &Session<'_, Pieces>, unit: Unit) -> Bound
 
 /// The first boundary past a place, which the cursor goes to.
 pub(crate) fn find_past<L: Ledger>(
-    session: &mut Session<'_, Pieces>,
+    session: &mut SessionBy<SharedTable, Pieces>,
     unit: Unit,
     place: u32,
     steps: &mut Steps<L>,
@@ -133,7 +138,7 @@ pub(crate) fn find_past<L: Ledger>(
 
 /// The last boundary before a place, which the cursor goes to.
 pub(crate) fn find_before<L: Ledger>(
-    session: &mut Session<'_, Pieces>,
+    session: &mut SessionBy<SharedTable, Pieces>,
     unit: Unit,
     place: u32,
     steps: &mut Steps<L>,
@@ -170,7 +175,7 @@ pub(crate) fn no_earlier(found: Option<Bound>, first: u32) -> Option<Bound>
 
 /// Puts the cursor back at a boundary.
 pub(crate) fn go_back<L: Ledger>(
-    session: &mut Session<'_, Pieces>,
+    session: &mut SessionBy<SharedTable, Pieces>,
     cursor: u32,
     steps: &mut Steps<L>,
 )

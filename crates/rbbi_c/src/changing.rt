@@ -9,9 +9,10 @@ use crate::filter_lending::unserved_by;
 use crate::handle::Handle;
 use crate::lending::lend;
 use crate::part::copy_of;
+use crate::shared::SharedTable;
 use crate::span::span_of;
 use rbbi_change::{Before, Edit, changed};
-use rbbi_session::{UnitEditErr, UnitSession, Walk};
+use rbbi_session::{UnitEditErr, UnitSessionBy, Walk};
 use rbbi_table::{FrontPlaces, Table};
 use rbbi_text::{Chars, Pieces, Steps, Unit, UnitText};
 use std::alloc::Global;
@@ -21,7 +22,7 @@ use std::sync::ledger::{Blank, Ledger};
 
 /// What an edit changed, in the session's unit: a range of the old and of the new text.
 #[repr(C)]
-#[derive(Clone, Copy, Debug)]
+#[derive(Clone, Copy)]
 pub struct Changed {
     /// Where it begins, in both texts.
     pub from: u32,
@@ -66,7 +67,7 @@ pub(crate) fn replace_telling<L: Ledger>(
     alloc: Global,
     table: &Table,
     unit: Unit,
-    session: &mut UnitSession<'_, Pieces>,
+    session: &mut UnitSessionBy<SharedTable, Pieces>,
     at: u32,
     remove: u32,
     insert: &str,

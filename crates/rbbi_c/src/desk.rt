@@ -1,4 +1,4 @@
-//! A session that owns its table.
+//! A session that shares its table, as a handle holds it.
 ghost use Rattle.std.specs.Prelude.{◌≡◌, length, IfOk, MatchResult, chars};
 ghost use Rattle.rbbi_c.specs.Asking.{question_of, told_of};
 ghost use Rattle.rbbi_session.specs.UnitSessions.{IsOpenedBy, offset_in};
@@ -7,83 +7,39 @@ ghost use Rattle.rbbi_session.specs.UnitWalks.{unit_view};
 ghost use Rattle.rbbi_c.specs.Reading.{AreListed};
 ghost use Rattle.rbbi_c.specs.Changing.{IsToldChange};
 ghost use Rattle.rbbi_c.specs.inner.Removing.{IsEditOf};
-ghost use Rattle.rbbi_c.specs.inner.Desks.{IsKept, IsAtOffset, IsNear, resumed_from};
 
 use crate::asking::{Ask, Told, answered};
 use crate::changing::{Changed, replace_telling};
 use crate::copying::copy_front;
 use crate::shared::SharedTable;
-use rbbi_session::{Known, Paused, Session, UnitEditErr, UnitSession, Walk};
+use rbbi_session::{Holds, UnitEditErr, UnitSessionBy, Walk};
 use rbbi_table::FrontPlaces;
 use rbbi_text::{Pieces, Steps, Unit};
 use std::alloc::{AllocError, Global};
 use std::marker::Model;
 use std::sync::ledger::Ledger;
 
-/// A session by a unit that owns its table with others, and so may be kept by C. A contract sees it
-/// as a [`UnitSession`].
+/// A session by a unit that shares its table with others, and so may be kept by C. A contract sees
+/// it as a [`UnitSession`](rbbi_session::UnitSession).
 #[derive(Drop)]
 pub struct Desk {
+    /// One more share of the session's table.
     pub(crate) table: SharedTable,
-    pub(crate) unit: Unit,
-    /// Where the cursor lies in the unit.
-    pub(crate) offset: u32,
-    /// A place that the session remembers, which the latest numbers were near to.
-    pub(crate) near: Known,
-    /// The session without its table. A call takes it, and puts it back.
-    pub(crate) paused: Option<Paused<Pieces>>,
+    pub(crate) session: UnitSessionBy<SharedTable, Pieces>,
     /// Space for searches in the table.
     pub(crate) marks: FrontPlaces,
 }
 
 impl Model for Desk {
-    ghost use Rattle.rbbi_session.specs.UnitSessions.{UnitSession};
     ghost use Rattle.std.specs.Prelude.{◌≡◌};
-    ghost use Rattle.rbbi_c.specs.inner.Desks.{IsKept, IsAtOffset, IsNear, resumed_from};
+    ghost use Rattle.rbbi_session.specs.UnitSessions.{UnitSession};
 
     ghost Value = { UnitSession };
 
-    ghost view = { λ desk. record {
-      unit = desk.unit;
-      asked = resumed_from desk.table desk.paused;
-    } };
+    ghost view = { λ desk. desk.session };
 
-    ghost invariant = { λ desk. IsKept desk.table desk.paused
-        × IsAtOffset desk.unit desk.offset desk.paused
-        × IsNear desk.unit desk.near desk.paused × (desk.marks ≡ desk.table.slashes) };
-}
-
-/// Goes on with a session by characters.
-pub(crate) fn resume<'a>(
-    table: &'a SharedTable,
-    paused: &mut Option<Paused<Pieces>>,
-) -> Session<'a, Pieces>
-    requires { IsKept table.now paused.old }
-    ensures { result ≡ resumed_from table.now paused.old }
-{
-    match paused.take() {
-        Some(paused) => Session::resume(table.table(), paused),
-        None => unreachable!(),
-    }
-}
-
-/// Goes on with a session by a unit, in which its cursor lies here, from a place that is known.
-pub(crate) fn resume_in<'a>(
-    table: &'a SharedTable,
-    unit: Unit,
-    offset: u32,
-    near: Known,
-    paused: &mut Option<Paused<Pieces>>,
-) -> UnitSession<'a, Pieces>
-    requires kept { IsKept table.now paused.old }
-    requires offset { IsAtOffset unit offset paused.old }
-    requires near { IsNear unit near paused.old }
-    ensures { result ≡ record { unit = unit; asked = resumed_from table.now paused.old } }
-{
-    match paused.take() {
-        Some(paused) => UnitSession::resume(table.table(), paused, unit, offset, near),
-        None => unreachable!(),
-    }
+    ghost invariant = { λ desk. (desk.session.asked.table ≡ desk.table)
+        × (desk.marks ≡ desk.table.slashes) };
 }
 
 impl Desk {
@@ -97,16 +53,10 @@ impl Desk {
         ensures { IfOk result (λ desk. IsOpenedBy unit table text desk) }
     {
         let marks = FrontPlaces::new(alloc, table.table())?;
-        let session = UnitSession::open(alloc, table.table(), text, unit)?;
-        let offset = session.current();
-        let near = session.near();
-        let paused = Some(session.pause());
+        let session = UnitSessionBy::open(alloc, table.share()?, text, unit)?;
         Ok(Desk {
             table,
-            unit,
-            offset,
-            near,
-            paused,
+            session,
             marks,
         })
     }
@@ -118,18 +68,7 @@ impl Desk {
         ensures asked { IsAsked unit_view self.old (question_of asked) self.new
             steps.old steps.new }
     {
-        let mut session = resume_in(
-            &self.table,
-            self.unit,
-            self.offset,
-            self.near,
-            &mut self.paused,
-        );
-        let told = answered(&mut session, asked, steps);
-        self.offset = session.current();
-        self.near = session.near();
-        self.paused = Some(session.pause());
-        told
+        answered(&mut self.session, asked, steps)
     }
 
     /// What an edit answers.
@@ -143,18 +82,7 @@ impl Desk {
         ensures { Edits unit_view self.old at remove (chars insert.now) result self.new
             steps.old steps.new }
     {
-        let mut session = resume_in(
-            &self.table,
-            self.unit,
-            self.offset,
-            self.near,
-            &mut self.paused,
-        );
-        let edited = session.replace(at, remove, insert, steps);
-        self.offset = session.current();
-        self.near = session.near();
-        self.paused = Some(session.pause());
-        edited
+        self.session.replace(at, remove, insert, steps)
     }
 
     /// What an edit answers. Where it is accepted, what it changed is written.
@@ -172,65 +100,35 @@ impl Desk {
             IsToldChange self.old self.new at remove (chars insert.now) change.new)
             (λ _. change.new ≡ change.old) }
     {
-        let mut session = resume_in(
-            &self.table,
-            self.unit,
-            self.offset,
-            self.near,
-            &mut self.paused,
-        );
-        let edited = replace_telling(
+        let session = &self.session;
+        let unit = session.unit;
+        replace_telling(
             alloc,
             self.table.table(),
-            self.unit,
-            &mut session,
+            unit,
+            &mut self.session,
             at,
             remove,
             insert,
             change,
             &mut self.marks,
             steps,
-        );
-        self.offset = session.current();
-        self.near = session.near();
-        self.paused = Some(session.pause());
-        edited
+        )
     }
 
-    /// The length of the text in the unit. The session stays as it is.
-    pub(crate) fn length(&mut self) -> u32
-        ensures length { result ≡ offset_in self.old (length self.old.asked.state.text) }
-        ensures same { self.new ≡ self.old }
+    /// The length of the text in the unit.
+    pub(crate) fn length(&self) -> u32
+        ensures { result ≡ offset_in self.now (length self.now.asked.state.text) }
     {
-        let session = resume_in(
-            &self.table,
-            self.unit,
-            self.offset,
-            self.near,
-            &mut self.paused,
-        );
-        let length = session.units();
-        self.paused = Some(session.pause());
-        length
+        self.session.units()
     }
 
-    /// Writes the statuses at the cursor, as many as there is room for. How many there are. The
-    /// session stays as it is.
-    pub(crate) fn statuses(&mut self, room: &mut [u32]) -> usize
-        ensures listed { AreListed unit_view self.old room.old room.new result }
-        ensures same { self.new ≡ self.old }
+    /// Writes the statuses at the cursor, as many as there is room for. How many there are.
+    pub(crate) fn statuses(&self, room: &mut [u32]) -> usize
+        ensures { AreListed unit_view self.now room.old room.new result }
     {
-        let session = resume_in(
-            &self.table,
-            self.unit,
-            self.offset,
-            self.near,
-            &mut self.paused,
-        );
-        let list = session.status_list();
+        let list = self.session.status_list();
         copy_front(list, room);
-        let count = list.len();
-        self.paused = Some(session.pause());
-        count
+        list.len()
     }
 }

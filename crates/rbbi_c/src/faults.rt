@@ -5,7 +5,7 @@ use rbbi_command::Place;
 
 /// Where a fault stands, and how long its name is.
 #[repr(C)]
-#[derive(Clone, Copy, Debug)]
+#[derive(Clone, Copy)]
 pub struct Fault {
     /// The number of bytes of its name.
     pub label: usize,

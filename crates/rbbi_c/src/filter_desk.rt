@@ -1,4 +1,4 @@
-//! A session through a filter that owns its table and its filter.
+//! A session through a filter that shares its table, as a handle holds it.
 ghost use Rattle.std.specs.Prelude.{◌≡◌, length, chars, MatchResult, string_bytes};
 ghost use Rattle.rbbi_filter.specs.UnitFilters.{offset_in, unit_filter_view};
 ghost use Rattle.rbbi_session.specs.Walks.{IsAsked, Edits, reply_to};
@@ -9,39 +9,37 @@ ghost use Rattle.rbbi_c.specs.Reading.{AreListed};
 
 use crate::asking::{Ask, Told};
 use crate::desk::Desk;
-use crate::filter_jobs::{Asking, Editing, Listing};
+use crate::filter_asking::{answered_through, statuses_through};
 use crate::part::part_of;
 use crate::shared::SharedTable;
-use rbbi_filter::{Filter, Job, PausedThrough};
-use rbbi_session::UnitEditErr;
-use rbbi_text::{Chars, Pieces, Steps, Unit, UnitText};
+use rbbi_filter::{Abbreviations, Filter, Suppressed, Tailoring, Through, Turned, UnitThrough};
+use rbbi_session::{UnitEditErr, UnitSessionBy, Walk};
+use rbbi_text::{Pieces, Steps};
 use std::alloc::Global;
 use std::marker::Model;
 use std::sync::ledger::Ledger;
 
-/// A session through a filter by a unit that owns its table with others, and its filter, and so may
-/// be kept by C. A contract sees it as a [`UnitThrough`](rbbi_filter::UnitThrough).
+/// A session past abbreviations, or through pairs, which it owns.
+#[derive(Drop)]
+pub(crate) enum FilterSession {
+    Suppressing(UnitThrough<Suppressed<SharedTable, Pieces, Abbreviations>>),
+    Turning(UnitThrough<Turned<SharedTable, Pieces, Tailoring>>),
+}
+
+/// A session through a filter by a unit that shares its table with others, and so may be kept by C.
+/// A contract sees it as a [`UnitThrough`].
 #[derive(Drop)]
 pub struct FilterDesk {
-    table: SharedTable,
-    unit: Unit,
-    filter: Filter,
-    /// The session without its table and its filter. A call takes it, and puts it back.
-    paused: Option<PausedThrough>,
+    session: FilterSession,
 }
 
 impl Model for FilterDesk {
     ghost use Rattle.rbbi_filter.specs.UnitFilters.{UnitFilterSession};
-    ghost use Rattle.rbbi_c.specs.inner.FilterDesks.{IsKeptThrough, gone_on};
+    ghost use Rattle.rbbi_c.specs.inner.FilterDesks.{session_of};
 
     ghost Value = { UnitFilterSession };
 
-    ghost view = { λ desk. record {
-      unit = desk.unit;
-      asked = gone_on desk.table desk.filter desk.paused;
-    } };
-
-    ghost invariant = { λ desk. IsKeptThrough desk.table desk.filter desk.paused };
+    ghost view = { λ desk. session_of desk.session };
 }
 
 impl FilterDesk {
@@ -52,47 +50,38 @@ impl FilterDesk {
     {
         let Desk {
             table,
+            session,
+            marks,
+        } = desk;
+        let UnitSessionBy {
+            asked,
             unit,
             offset,
             near,
-            paused,
-            marks,
-        } = desk;
-        let Some(paused) = paused else { unreachable!() };
-        match PausedThrough::open(alloc, table.table(), paused, &filter) {
-            Ok(paused) => Ok(FilterDesk {
-                table,
-                unit,
-                filter,
-                paused: Some(paused),
-            }),
-            Err(paused) => Err(Desk {
-                table,
-                unit,
-                offset,
-                near,
-                paused: Some(paused),
-                marks,
-            }),
+        } = session;
+        match filter {
+            Filter::Suppressing(list) => {
+                let session = UnitThrough::new(Through::past(asked, list), unit);
+                Ok(FilterDesk {
+                    session: FilterSession::Suppressing(session),
+                })
+            }
+            Filter::Turning(pairs) => match Through::of(alloc, asked, pairs) {
+                Ok(session) => Ok(FilterDesk {
+                    session: FilterSession::Turning(UnitThrough::new(session, unit)),
+                }),
+                Err(asked) => Err(Desk {
+                    table,
+                    session: UnitSessionBy {
+                        asked,
+                        unit,
+                        offset,
+                        near,
+                    },
+                    marks,
+                }),
+            },
         }
-    }
-
-    /// Does a job with the session.
-    fn perform<J: Job, L: Ledger>(
-        &mut self,
-        job: &J,
-        room: &mut [u32],
-        steps: &mut Steps<L>,
-    ) -> J::Out
-        ensures { J.does job.now self.old room.old result room.new self.new steps.old steps.new }
-    {
-        let Some(paused) = self.paused.take() else {
-            unreachable!()
-        };
-        let table = self.table.table();
-        let (paused, out) = paused.perform(table, &self.filter, self.unit, job, room, steps);
-        self.paused = Some(paused);
-        out
     }
 
     /// What a question answers. It is long, so all exports have one copy.
@@ -102,7 +91,10 @@ impl FilterDesk {
         ensures asked { IsAsked unit_filter_view self.old (question_of asked) self.new
             steps.old steps.new }
     {
-        self.perform(&Asking { asked }, &mut [], steps)
+        match &mut self.session {
+            FilterSession::Suppressing(session) => answered_through(session, asked, steps),
+            FilterSession::Turning(session) => answered_through(session, asked, steps),
+        }
     }
 
     /// What an edit answers.
@@ -116,26 +108,19 @@ impl FilterDesk {
         ensures { Edits unit_filter_view self.old at remove (chars insert.now) result self.new
             steps.old steps.new }
     {
-        let edit = Editing { at, remove, insert };
-        self.perform(&edit, &mut [], steps)
+        match &mut self.session {
+            FilterSession::Suppressing(session) => session.replace(at, remove, insert, steps),
+            FilterSession::Turning(session) => session.replace(at, remove, insert, steps),
+        }
     }
 
-    /// Writes the statuses at the cursor, as many as there is room for. How many there are. The
-    /// session stays as it is.
-    pub(crate) fn statuses<L: Ledger>(&mut self, room: &mut [u32], steps: &mut Steps<L>) -> usize
-        ensures listed { AreListed unit_filter_view self.old room.old room.new result }
-        ensures same { self.new ≡ self.old }
+    /// Writes the statuses at the cursor, as many as there is room for. How many there are.
+    pub(crate) fn statuses(&self, room: &mut [u32]) -> usize
+        ensures { AreListed unit_filter_view self.now room.old room.new result }
     {
-        self.perform(&Listing {}, room, steps)
-    }
-
-    /// The text.
-    fn text(&self) -> &Pieces
-        ensures { result.now ≡ self.now.asked.state.text }
-    {
-        match &self.paused {
-            Some(paused) => paused.text(),
-            None => unreachable!(),
+        match &self.session {
+            FilterSession::Suppressing(session) => statuses_through(session, room),
+            FilterSession::Turning(session) => statuses_through(session, room),
         }
     }
 
@@ -143,8 +128,10 @@ impl FilterDesk {
     pub(crate) fn length(&self) -> u32
         ensures { result ≡ offset_in self.now (length self.now.asked.state.text) }
     {
-        let text = self.text();
-        text.offset(self.unit, text.len())
+        match &self.session {
+            FilterSession::Suppressing(session) => session.units(),
+            FilterSession::Turning(session) => session.units(),
+        }
     }
 
     /// The characters between two numbers, in UTF-8, or the code of the refusal.
@@ -159,6 +146,13 @@ impl FilterDesk {
             (λ made. IsPart self.now.unit self.now.asked.state.text from to (string_bytes made))
             (IsNoPart self.now.unit self.now.asked.state.text from to) }
     {
-        part_of(alloc, self.text(), self.unit, from, to, steps)
+        match &self.session {
+            FilterSession::Suppressing(session) => {
+                part_of(alloc, session.text(), session.unit(), from, to, steps)
+            }
+            FilterSession::Turning(session) => {
+                part_of(alloc, session.text(), session.unit(), from, to, steps)
+            }
+        }
     }
 }

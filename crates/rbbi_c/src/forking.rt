@@ -9,7 +9,7 @@ ghost use Rattle.rbbi_c.specs.Holding.{StaysThere};
 
 use crate::bounds::go_back;
 use crate::codes;
-use crate::desk::{Desk, resume};
+use crate::desk::Desk;
 use crate::filter_lending::unserved_by;
 use crate::handle::Handle;
 use crate::held::Held;
@@ -17,8 +17,8 @@ use crate::lending::lend;
 use crate::opening::{is_open, keep};
 use crate::part::copy_of;
 use crate::shared::SharedTable;
-use rbbi_session::Session;
-use rbbi_text::{Chars, Pieces, Steps, Unit};
+use rbbi_session::{UnitSessionBy, Walk};
+use rbbi_text::{Chars, Pieces, Steps};
 use std::alloc::{AllocError, Global};
 use std::marker::Brand;
 use std::rt::Memory;
@@ -29,19 +29,16 @@ use std::sync::ledger::{Blank, Ledger};
 fn forked<L: Ledger>(
     alloc: Global,
     table: &SharedTable,
-    unit: Unit,
-    offset: u32,
-    session: &Session<'_, Pieces>,
+    session: &UnitSessionBy<SharedTable, Pieces>,
     steps: &mut Steps<L>,
 ) -> Result<Desk, AllocError>
-    requires table { session.now.table ≡ table.now }
-    requires offset { offset ≡ offset_of unit session.now.state.text session.now.state.cursor }
-    ensures { IfOk result (StaysThere (record { unit = unit; asked = session.now })) }
+    requires { session.now.asked.table ≡ table.now }
+    ensures { IfOk result (StaysThere session.now) }
 {
     let text = session.text();
     let copy = copy_of(alloc, text, 0, text.len(), steps)?;
-    let mut desk = Desk::open(alloc, table.share()?, copy, unit)?;
-    desk.go(session.current(), offset, steps);
+    let mut desk = Desk::open(alloc, table.share()?, copy, session.unit)?;
+    desk.go(session.asked.current(), session.offset, steps);
     Ok(desk)
 }
 
@@ -55,26 +52,20 @@ impl Desk {
         ensures text { self.new.asked.state.text ≡ self.old.asked.state.text }
         ensures cursor { self.new.asked.state.cursor ≡ cursor }
     {
-        let mut session = resume(&self.table, &mut self.paused);
-        go_back(&mut session, cursor, steps);
-        self.offset = offset;
-        self.paused = Some(session.pause());
+        go_back(&mut self.session.asked, cursor, steps);
+        self.session.offset = offset;
     }
 
     /// Another session by the same table in the same unit, over a copy of the text, with the same
-    /// cursor. This one stays as it is.
+    /// cursor.
     pub(crate) fn fork<L: Ledger>(
-        &mut self,
+        &self,
         alloc: Global,
         steps: &mut Steps<L>,
     ) -> Result<Desk, AllocError>
-        ensures same { self.new ≡ self.old }
-        ensures forked { IfOk result (StaysThere self.old) }
+        ensures { IfOk result (StaysThere self.now) }
     {
-        let session = resume(&self.table, &mut self.paused);
-        let fork = forked(alloc, &self.table, self.unit, self.offset, &session, steps);
-        self.paused = Some(session.pause());
-        fork
+        forked(alloc, &self.table, &self.session, steps)
     }
 }
 

@@ -14,14 +14,15 @@ use crate::bounds::{
 };
 use crate::copying::write_at;
 use crate::greatest::Greatest;
+use crate::shared::SharedTable;
 use crate::stretch::{Stretch, next_on};
-use rbbi_session::Session;
+use rbbi_session::SessionBy;
 use rbbi_table::{FrontPlaces, Table};
 use rbbi_text::{Chars, Pieces, Steps, Unit, UnitText};
 use std::sync::ledger::Ledger;
 
 /// What was listed.
-#[derive(Clone, Copy, Debug)]
+#[derive(Clone, Copy)]
 pub struct Listing {
     /// How many boundaries were written.
     pub count: usize,
@@ -96,7 +97,7 @@ fn list_on<L: Ledger>(
 
 /// Lists the boundaries before one, down to a place, the last one first.
 fn list_back<L: Ledger>(
-    session: &mut Session<'_, Pieces>,
+    session: &mut SessionBy<SharedTable, Pieces>,
     unit: Unit,
     latest: Option<Bound>,
     first: u32,
@@ -143,7 +144,7 @@ fn list_back<L: Ledger>(
 
 /// Lists the boundaries of a session's text past one number, up to another.
 pub(crate) fn list_past<L: Ledger>(
-    session: &mut Session<'_, Pieces>,
+    session: &mut SessionBy<SharedTable, Pieces>,
     table: &Table,
     unit: Unit,
     from: u32,
@@ -176,7 +177,7 @@ pub(crate) fn list_past<L: Ledger>(
 
 /// Lists the boundaries of a session's text before one number, down to another, the last one first.
 pub(crate) fn list_before<L: Ledger>(
-    session: &mut Session<'_, Pieces>,
+    session: &mut SessionBy<SharedTable, Pieces>,
     unit: Unit,
     from: u32,
     to: u32,

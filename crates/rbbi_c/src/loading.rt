@@ -14,6 +14,7 @@ use crate::opening::{keep, table_in};
 use crate::shared::SharedTable;
 use rbbi_command::Place;
 use rbbi_file::{FileErr, read_table, write_table};
+use rbbi_session::Holds;
 use rbbi_table::Table;
 use rbbi_text::MOST_BYTES;
 use std::alloc::Global;

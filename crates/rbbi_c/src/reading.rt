@@ -9,10 +9,11 @@ ghost use Rattle.rbbi_c.specs.Segments.{IsSegmentAt};
 ghost use Rattle.rbbi_c.specs.Parts.{IsPart, IsNoPart};
 ghost use Rattle.rbbi_c.specs.Holding.{StaysThere};
 
-use crate::desk::{Desk, resume};
+use crate::desk::Desk;
 use crate::listing::{Listing, list_before, list_past};
 use crate::part::part_of;
 use crate::segment::{Segment, segment_at};
+use rbbi_session::{Holds, Walk};
 use rbbi_text::Steps;
 use std::alloc::Global;
 use std::sync::ledger::Ledger;
@@ -31,20 +32,18 @@ impl Desk {
             (columns places.old statuses.old) (columns places.new statuses.new) result }
         ensures stays { StaysThere self.old self.new }
     {
-        let mut session = resume(&self.table, &mut self.paused);
-        let listing = list_past(
-            &mut session,
+        let unit = self.session.unit;
+        list_past(
+            &mut self.session.asked,
             self.table.table(),
-            self.unit,
+            unit,
             from,
             to,
             places,
             statuses,
             &mut self.marks,
             steps,
-        );
-        self.paused = Some(session.pause());
-        listing
+        )
     }
 
     /// Lists the boundaries before one number, down to another, the last one first.
@@ -60,10 +59,16 @@ impl Desk {
             (columns places.old statuses.old) (columns places.new statuses.new) result }
         ensures stays { StaysThere self.old self.new }
     {
-        let mut session = resume(&self.table, &mut self.paused);
-        let listing = list_before(&mut session, self.unit, from, to, places, statuses, steps);
-        self.paused = Some(session.pause());
-        listing
+        let unit = self.session.unit;
+        list_before(
+            &mut self.session.asked,
+            unit,
+            from,
+            to,
+            places,
+            statuses,
+            steps,
+        )
     }
 
     /// The segment that holds a place, if one does.
@@ -72,29 +77,29 @@ impl Desk {
             (first_after boundaries at ≡ None) (IsSegmentAt boundaries at) }
         ensures stays { StaysThere self.old self.new }
     {
-        let mut session = resume(&self.table, &mut self.paused);
-        let segment = segment_at(&mut session, self.unit, at, steps);
-        self.paused = Some(session.pause());
-        segment
+        let unit = self.session.unit;
+        segment_at(&mut self.session.asked, unit, at, steps)
     }
 
-    /// The characters between two numbers, in UTF-8, or the code of the refusal. The session stays
-    /// as it is.
+    /// The characters between two numbers, in UTF-8, or the code of the refusal.
     pub(crate) fn part<L: Ledger>(
-        &mut self,
+        &self,
         alloc: Global,
         from: u32,
         to: u32,
         steps: &mut Steps<L>,
     ) -> Result<String, u32>
-        ensures read { MatchResult result
-            (λ made. IsPart self.old.unit self.old.asked.state.text from to (string_bytes made))
-            (IsNoPart self.old.unit self.old.asked.state.text from to) }
-        ensures same { self.new ≡ self.old }
+        ensures { MatchResult result
+            (λ made. IsPart self.now.unit self.now.asked.state.text from to (string_bytes made))
+            (IsNoPart self.now.unit self.now.asked.state.text from to) }
     {
-        let session = resume(&self.table, &mut self.paused);
-        let part = part_of(alloc, session.text(), self.unit, from, to, steps);
-        self.paused = Some(session.pause());
-        part
+        part_of(
+            alloc,
+            self.session.text(),
+            self.session.unit,
+            from,
+            to,
+            steps,
+        )
     }
 }

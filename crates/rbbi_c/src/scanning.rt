@@ -10,6 +10,7 @@ use crate::codes;
 use crate::handle::Handle;
 use crate::held::Held;
 use rbbi_scan::{Reached, Stop, breaks_utf8, breaks_utf16, words_utf8, words_utf16};
+use rbbi_session::Holds;
 use rbbi_table::Table;
 use rbbi_text::Steps;
 use std::alloc::Global;

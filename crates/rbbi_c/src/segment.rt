@@ -8,13 +8,14 @@ ghost use Rattle.rbbi_c.specs.Segments.{EndsAt, IsSegmentAt};
 ghost use Rattle.rbbi_c.specs.inner.Bounds.{HasSameText, HasSameState, IsBound, AreBounds};
 
 use crate::bounds::{Bound, find_before, find_past, go_back, place_up_to};
-use rbbi_session::Session;
+use crate::shared::SharedTable;
+use rbbi_session::SessionBy;
 use rbbi_text::{Pieces, Steps, Unit};
 use std::sync::ledger::Ledger;
 
 /// A segment: what lies between two neighbouring boundaries.
 #[repr(C)]
-#[derive(Clone, Copy, Debug)]
+#[derive(Clone, Copy)]
 pub struct Segment {
     /// Where it begins.
     pub from: u32,
@@ -36,7 +37,7 @@ fn offset_or_start(found: Option<Bound>) -> u32
 
 /// The segment that ends at a boundary other than 0.
 fn segment_to<L: Ledger>(
-    session: &mut Session<'_, Pieces>,
+    session: &mut SessionBy<SharedTable, Pieces>,
     unit: Unit,
     end: Bound,
     steps: &mut Steps<L>,
@@ -57,7 +58,7 @@ fn segment_to<L: Ledger>(
 
 /// The segment that ends at a boundary other than 0, if there is one.
 fn segment_to_end<L: Ledger>(
-    session: &mut Session<'_, Pieces>,
+    session: &mut SessionBy<SharedTable, Pieces>,
     unit: Unit,
     end: Option<Bound>,
     steps: &mut Steps<L>,
@@ -77,7 +78,7 @@ fn segment_to_end<L: Ledger>(
 /// The segment of a session's text that holds a place. None where the place lies at the text's end
 /// or past it.
 pub(crate) fn segment_at<L: Ledger>(
-    session: &mut Session<'_, Pieces>,
+    session: &mut SessionBy<SharedTable, Pieces>,
     unit: Unit,
     at: u32,
     steps: &mut Steps<L>,

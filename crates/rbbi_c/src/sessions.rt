@@ -1,5 +1,5 @@
 //! What C calls to open, edit and close a session. `include/rbbi.h` documents these calls.
-ghost use Rattle.std.specs.Prelude.{◌≡◌, ◌<◌, None};
+ghost use Rattle.std.specs.Prelude.{◌≡◌, None};
 ghost use Rattle.rbbi_c.specs.Copying.{room_code};
 ghost use Rattle.rbbi_c.specs.Calls.{EditsThrough};
 ghost use Rattle.rbbi_c.specs.Opening.{OpensThrough};
@@ -12,11 +12,8 @@ use crate::handle::Handle;
 use crate::held::Held;
 use crate::lending::lend;
 use crate::opening::{is_open, keep, session_of};
-use rbbi_text::Steps;
 use std::alloc::Global;
-use std::marker::Brand;
 use std::rt::Memory;
-use std::sync::ledger::{Blank, Ledger};
 
 /// Opens a session over a text in UTF-8, with places in the unit of a number.
 #[unsafe(no_mangle)]
@@ -101,7 +98,19 @@ pub extern "C" fn rbbi_c_statuses(
     ensures { ListsThrough session.old.held result room.old room.new count.old count.new
         session.new.held }
 {
-    list_counted::<Brand>(memory, session, room, count, Blank::new(1))
+    let alloc = Global::new(memory);
+    let Some(mut held) = session.take(alloc) else {
+        return codes::HANDLE;
+    };
+    let code = match lend(&mut held) {
+        Some(desk) => tell_count(desk.statuses(room), room.len(), count),
+        None => match lend_filtered(&mut held) {
+            Some(desk) => tell_count(desk.statuses(room), room.len(), count),
+            None => codes::HANDLE,
+        },
+    };
+    session.put(alloc, held);
+    code
 }
 
 /// Tells how many statuses there are, and whether there was room for them.
@@ -115,34 +124,4 @@ fn tell_count(statuses: usize, room: usize, count: &mut usize) -> u32
     } else {
         codes::OK
     }
-}
-
-/// Writes the statuses of the boundary at the cursor, with a counter of its own.
-fn list_counted<L: Ledger>(
-    memory: Memory,
-    session: &mut Handle,
-    room: &mut [u32],
-    count: &mut usize,
-    blank: Blank,
-) -> u32
-    requires name { blank.name ≡ L.name }
-    requires parts { blank.parts ≡ L.parts }
-    requires some { 0 < blank.parts }
-    ensures { ListsThrough session.old.held result room.old room.new count.old count.new
-        session.new.held }
-{
-    let alloc = Global::new(memory);
-    let Some(mut held) = session.take(alloc) else {
-        return codes::HANDLE;
-    };
-    let mut steps = Steps::<L>::exported(memory, blank);
-    let code = match lend(&mut held) {
-        Some(desk) => tell_count(desk.statuses(room), room.len(), count),
-        None => match lend_filtered(&mut held) {
-            Some(desk) => tell_count(desk.statuses(room, &mut steps), room.len(), count),
-            None => codes::HANDLE,
-        },
-    };
-    session.put(alloc, held);
-    code
 }

@@ -1,6 +1,7 @@
 //! A table that several sessions and tallies share.
 ghost use Rattle.std.specs.Prelude.{◌≡◌, IfOk};
 
+use rbbi_session::Holds;
 use rbbi_table::Table;
 use std::alloc::{AllocError, Global};
 use std::marker::Model;
@@ -38,11 +39,12 @@ impl SharedTable {
         let counted = Arc::try_clone(&self.counted)?;
         Ok(SharedTable { counted })
     }
+}
 
-    /// The table.
-    pub(crate) fn table(&self) -> &Table
-        ensures { result.now ≡ self.now }
-    {
+impl Holds for SharedTable {
+    ghost table_of = { λ shared. shared };
+
+    fn table(&self) -> &Table {
         &self.counted
     }
 }

@@ -1,4 +1,4 @@
-//! A tally that owns its table.
+//! A tally that shares its table, as a handle holds it.
 ghost use Rattle.std.specs.Prelude.{◌≡◌, IfOk, chars};
 ghost use Rattle.rbbi_c.specs.Tallying.{boundaries_of, counted_in, EditsTally};
 ghost use Rattle.rbbi_c.specs.inner.Tallied.{tally_by};
@@ -7,41 +7,31 @@ ghost use Rattle.rbbi_tally.specs.Counts.{AreCounts};
 use crate::shared::SharedTable;
 use crate::span::span_of;
 use rbbi_session::UnitEditErr;
-use rbbi_tally::{Counts, Paused, Tally};
+use rbbi_tally::{Counts, TallyBy};
 use rbbi_text::{EditErr, Pieces, Steps, Unit, UnitText};
 use std::alloc::{AllocError, Global};
 use std::marker::Model;
 use std::sync::ledger::Ledger;
 
-/// A tally by a unit that owns its table with others, and so may be kept by C.
+/// A tally by a unit that shares its table with others, and so may be kept by C.
 #[derive(Drop)]
 pub struct TallyDesk {
-    table: SharedTable,
     unit: Unit,
-    /// The tally without its table. None only while a call works on it.
-    paused: Option<Paused<Pieces>>,
+    tally: TallyBy<SharedTable, Pieces>,
 }
 
 impl Model for TallyDesk {
     ghost use Rattle.rbbi_c.specs.Tallying.{UnitTally};
-    ghost use Rattle.rbbi_c.specs.inner.Tallied.{text_in};
-    ghost use Rattle.std.specs.Prelude.{IsSomeAnd};
-    ghost use Rattle.rbbi_tally.specs.Pausing.{IsPausedBy};
+    ghost use Rattle.rbbi_c.specs.inner.Tallied.{tally_by};
 
     ghost Value = { UnitTally };
 
-    ghost view = { λ desk. record {
-      unit = desk.unit;
-      table = desk.table;
-      text = text_in desk.paused;
-    } };
-
-    ghost invariant = { λ desk. IsSomeAnd desk.paused (IsPausedBy desk.table) };
+    ghost view = { λ desk. tally_by desk.unit desk.tally };
 }
 
 /// Edits a tally between two numbers of a unit.
 fn replace_in<L: Ledger>(
-    tally: &mut Tally<'_, Pieces>,
+    tally: &mut TallyBy<SharedTable, Pieces>,
     unit: Unit,
     at: u32,
     remove: u32,
@@ -74,13 +64,8 @@ impl TallyDesk {
     {
         let mut text = text;
         text.make_ready(unit);
-        let tally = Tally::open(alloc, table.table(), text, steps)?;
-        let paused = Some(tally.pause());
-        Ok(TallyDesk {
-            table,
-            unit,
-            paused,
-        })
+        let tally = TallyBy::open(alloc, table, text, steps)?;
+        Ok(TallyDesk { unit, tally })
     }
 
     /// Puts the characters of `insert` in place of `remove` units from `at` on.
@@ -93,44 +78,23 @@ impl TallyDesk {
     ) -> Result<(), UnitEditErr>
         ensures { EditsTally self.old at remove (chars insert.now) result self.new }
     {
-        let Some(paused) = self.paused.take() else {
-            unreachable!()
-        };
-        let mut tally = Tally::resume(self.table.table(), paused);
-        let edited = replace_in(&mut tally, self.unit, at, remove, insert, steps);
-        self.paused = Some(tally.pause());
-        edited
+        replace_in(&mut self.tally, self.unit, at, remove, insert, steps)
     }
 
     /// How many segments there are, or how many have a status as their largest one.
-    pub(crate) fn count(&mut self, status: Option<u32>) -> u32
-        ensures number { result ≡ counted_in status (boundaries_of self.old) }
-        ensures same { self.new ≡ self.old }
+    pub(crate) fn count(&self, status: Option<u32>) -> u32
+        ensures { result ≡ counted_in status (boundaries_of self.now) }
     {
-        let Some(paused) = self.paused.take() else {
-            unreachable!()
-        };
-        let tally = Tally::resume(self.table.table(), paused);
-        let number = match status {
-            Some(status) => tally.count(status),
-            None => tally.segments(),
-        };
-        self.paused = Some(tally.pause());
-        number
+        match status {
+            Some(status) => self.tally.count(status),
+            None => self.tally.segments(),
+        }
     }
 
     /// The statuses that some segment has as its largest one, which rise, with their counts.
-    pub(crate) fn each(&mut self, alloc: Global) -> Result<Counts, AllocError>
-        ensures counts { IfOk result (λ counts.
-            AreCounts (boundaries_of self.old) counts.items) }
-        ensures same { self.new ≡ self.old }
+    pub(crate) fn each(&self, alloc: Global) -> Result<Counts, AllocError>
+        ensures { IfOk result (λ counts. AreCounts (boundaries_of self.now) counts.items) }
     {
-        let Some(paused) = self.paused.take() else {
-            unreachable!()
-        };
-        let tally = Tally::resume(self.table.table(), paused);
-        let counts = tally.each(alloc);
-        self.paused = Some(tally.pause());
-        counts
+        self.tally.each(alloc)
     }
 }

@@ -145,11 +145,10 @@ pub extern "C" fn rbbi_c_tally_replace(
 }
 
 /// A number of the tally in a box.
-fn count_held(held: &mut Held, status: Option<u32>) -> Option<u32>
-    ensures number { MatchOption result (tally_in (Some held.old) ≡ None) (λ number.
-        IsSomeAnd (tally_in (Some held.old))
+fn count_held(held: &Held, status: Option<u32>) -> Option<u32>
+    ensures { MatchOption result (tally_in (Some held.now) ≡ None) (λ number.
+        IsSomeAnd (tally_in (Some held.now))
         (λ tally. number ≡ counted_in status (boundaries_of tally))) }
-    ensures same { held.new ≡ held.old }
 {
     match held {
         Held::Tally(desk) => Some(desk.count(status)),
@@ -163,10 +162,10 @@ fn count_through(memory: Memory, tally: &mut Handle, status: Option<u32>, count:
         tally.new.held }
 {
     let alloc = Global::new(memory);
-    let Some(mut held) = tally.take(alloc) else {
+    let Some(held) = tally.take(alloc) else {
         return codes::HANDLE;
     };
-    let number = count_held(&mut held, status);
+    let number = count_held(&held, status);
     tally.put(alloc, held);
     match number {
         Some(number) => {
@@ -201,12 +200,11 @@ pub extern "C" fn rbbi_c_tally_count(
 }
 
 /// The counts of the tally in a box, or the code of the refusal.
-fn each_held(alloc: Global, held: &mut Held) -> Result<Counts, u32>
-    ensures told { MatchResult result (λ counts. IsSomeAnd (tally_in (Some held.old))
+fn each_held(alloc: Global, held: &Held) -> Result<Counts, u32>
+    ensures { MatchResult result (λ counts. IsSomeAnd (tally_in (Some held.now))
         (λ tally. AreCounts (boundaries_of tally) counts.items))
-        (λ code. ((code ≡ 3) × (tally_in (Some held.old) ≡ None))
-        ⊎ ((code ≡ 9) × IsSome (tally_in (Some held.old)))) }
-    ensures same { held.new ≡ held.old }
+        (λ code. ((code ≡ 3) × (tally_in (Some held.now) ≡ None))
+        ⊎ ((code ≡ 9) × IsSome (tally_in (Some held.now)))) }
 {
     match held {
         Held::Tally(desk) => match desk.each(alloc) {
@@ -242,10 +240,10 @@ pub extern "C" fn rbbi_c_tally_each(
         (counted statuses.new counts.new) count.old count.new tally.new.held }
 {
     let alloc = Global::new(memory);
-    let Some(mut held) = tally.take(alloc) else {
+    let Some(held) = tally.take(alloc) else {
         return codes::HANDLE;
     };
-    let each = each_held(alloc, &mut held);
+    let each = each_held(alloc, &held);
     tally.put(alloc, held);
     let list = match each {
         Ok(list) => list,

@@ -8,3 +8,4 @@ pub mod Shown
 pub mod Lists
 pub mod Ready
 pub mod Quiet
+pub mod Boxing

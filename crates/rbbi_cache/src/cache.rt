@@ -31,7 +31,7 @@ pub(crate) const START: Entry = Entry {
 };
 
 /// Boundaries of one text by one table, in at most 16 runs. It takes memory only when it is made.
-#[derive(Debug, Drop)]
+#[derive(Drop)]
 pub struct Cache {
     pub(crate) runs: RunList,
     /// Room for what an edit leaves of the runs.

@@ -3,6 +3,7 @@
 
 mod anchors;
 mod back;
+mod boxed;
 mod cache;
 mod edited;
 mod entry;
@@ -20,6 +21,7 @@ mod single;
 mod wide;
 
 pub use anchors::anchor_before;
+pub use boxed::MOST_ENTRIES;
 pub use cache::Cache;
 pub use entry::Entry;
-pub use run::{MOST_ENTRIES, Run};
+pub use run::Run;

@@ -5,29 +5,18 @@ ghost use Rattle.rbbi_model.specs.Runs as model;
 ghost use Rattle.rbbi_cache.specs.inner.Pushed.{pushed};
 
 use crate::Entry;
+use crate::boxed::{Body, Boxed, MOST_ENTRIES};
 use std::alloc::{AllocError, Global};
 use std::marker::Model;
-
-/// The most entries of a run.
-pub const MOST_ENTRIES: usize = 256;
 
 /// How many of the last entries a full run keeps when it goes on.
 const KEPT_ENTRIES: usize = 128;
 
-/// What a run has, with room for all the entries that it may get, of which the first ones are its.
-#[derive(Debug, Drop)]
-struct Body {
-    anchor: u32,
-    leads: bool,
-    len: usize,
-    slots: [Entry; MOST_ENTRIES],
-}
-
 /// Consecutive boundaries that were found from one anchor. What it has stands in a box that is made
 /// once, so that runs change places fast.
-#[derive(Debug, Drop)]
+#[derive(Drop)]
 pub struct Run {
-    body: Box<Body>,
+    body: Boxed,
 }
 
 impl Model for Run {
@@ -37,12 +26,12 @@ impl Model for Run {
     ghost Value = { Run };
 
     ghost view = { λ run. record {
-      anchor = run.body.value.anchor;
-      entries = take run.body.value.len run.body.value.slots;
-      leads = run.body.value.leads;
+      anchor = run.body.anchor;
+      entries = take run.body.len run.body.slots;
+      leads = run.body.leads;
     } };
 
-    ghost invariant = { λ run. (run.body.value.len ≤ 256) × (length run.body.value.slots ≡ 256) };
+    ghost invariant = { λ run. (run.body.len ≤ 256) × (length run.body.slots ≡ 256) };
 }
 
 impl Run {
@@ -62,7 +51,7 @@ impl Run {
             slots: [blank; MOST_ENTRIES],
         };
         Ok(Run {
-            body: Box::new(alloc, body)?,
+            body: Boxed::new(alloc, body)?,
         })
     }
 
@@ -70,21 +59,22 @@ impl Run {
     pub fn anchor(&self) -> u32
         ensures { result ≡ self.now.anchor }
     {
-        self.body.anchor
+        self.body.lend().anchor
     }
 
     /// Its entries, in the order of the text.
     pub fn entries(&self) -> &[Entry]
         ensures { result.now ≡ self.now.entries }
     {
-        &self.body.slots[..self.body.len]
+        let body = self.body.lend();
+        &body.slots[..body.len]
     }
 
     /// Begins again at an anchor, with no entries.
     pub(crate) fn begin(&mut self, anchor: u32)
         ensures { self.new ≡ record { anchor = anchor; entries = []; leads = true } }
     {
-        let body = &mut *self.body;
+        let body = self.body.lend_mut();
         body.anchor = anchor;
         body.leads = true;
         body.len = 0;
@@ -94,7 +84,7 @@ impl Run {
     pub(crate) fn push(&mut self, entry: Entry)
         ensures { self.new ≡ pushed self.old entry }
     {
-        let body = &mut *self.body;
+        let body = self.body.lend_mut();
         if body.len == MOST_ENTRIES {
             body.slots.copy_within(KEPT_ENTRIES.., 0);
             body.len = MOST_ENTRIES - KEPT_ENTRIES;
@@ -109,7 +99,7 @@ impl Run {
     pub(crate) fn leads(&self) -> bool
         ensures { result ≡ self.now.leads }
     {
-        self.body.leads
+        self.body.lend().leads
     }
 
     /// How many entries it has.
@@ -117,14 +107,14 @@ impl Run {
         ensures exact { result ≡ length self.now.entries }
         ensures most { result ≤ 256 }
     {
-        self.body.len
+        self.body.lend().len
     }
 
     /// Says that it no longer leads.
     pub(crate) fn follow(&mut self)
         ensures { self.new ≡ record self.old { leads = false } }
     {
-        self.body.leads = false;
+        self.body.lend_mut().leads = false;
     }
 
     /// Adds entries at the end. There is room for them.
@@ -132,7 +122,7 @@ impl Run {
         requires { length self.old.entries + length entries.now ≤ 256 }
         ensures { self.new ≡ record self.old { entries = self.old.entries ++ entries.now } }
     {
-        let body = &mut *self.body;
+        let body = self.body.lend_mut();
         let len = body.len;
         let slots = &mut body.slots[..];
         slots[len..len + entries.len()].copy_from_slice(entries);

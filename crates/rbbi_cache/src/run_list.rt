@@ -24,7 +24,7 @@ use std::sync::ledger::Ledger;
 use std::{array, mem};
 
 /// A list of at most 16 runs, the most recently used first. It takes no memory after it was made.
-#[derive(Debug, Drop)]
+#[derive(Drop)]
 pub(crate) struct RunList {
     /// Room for 16 runs, of which the first ones are the list.
     pub(crate) slots: [Run; MOST_RUNS],

@@ -6,7 +6,7 @@ ghost use Rattle.rbbi_model.specs.Costs.{anchor_below, searches_cost};
 ghost use Rattle.rbbi_cache.specs.inner.Lists.{GoesOnFrom};
 ghost use Rattle.rbbi_cache.specs.inner.Ready.{IsReadyAfter, GoesOnAs};
 
-use crate::run::MOST_ENTRIES;
+use crate::boxed::MOST_ENTRIES;
 use crate::scan::scan;
 use crate::{Entry, Run};
 use rbbi_table::{FrontPlaces, Table};

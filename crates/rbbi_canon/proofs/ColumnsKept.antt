@@ -6,22 +6,7 @@ use Rattle.std.proofs.lemmas.List.{get_or_append_left, get_or_push, length_push}
 use Rattle.rbbi_bits.specs.NumberedRows.{listed_row, IsUnlisted, KeepsOrAdds}
 use Rattle.rbbi_canon.specs.declared.grid.Grid.{Grid}
 use Rattle.rbbi_canon.specs.inner.Grids.{LeadOnAlike, IsColumn, AreRepresentatives}
-
--- the column of a category with its place among those that are kept
-pub record HasColumn (grid : Grid) (kept : List (List ℕ)) (firsts : List ℕ) (category first : ℕ) : Type 0 where
-  pub place : ℕ
-  pub within : place < length kept
-  pub first_is : first ≡ get_or firsts place 0
-  pub column : IsColumn grid category (listed_row kept place)
-
--- The columns of the first so many categories are kept once each, with the first category that has each.
-pub record AreKept (grid : Grid) (category : ℕ) (kept : List (List ℕ)) (firsts found : List ℕ) : Type 0 where
-  pub many : length firsts ≡ length kept
-  pub few : length kept ≤ category
-  pub once : (j k : ℕ) → j < k → k < length kept → listed_row kept j ≢ listed_row kept k
-  pub columns : (k : ℕ) → k < length kept → (get_or firsts k 0 < grid.width) × IsColumn grid (get_or firsts k 0) (listed_row kept k)
-  pub all : length found ≡ category
-  pub each : (c : ℕ) → c < category → HasColumn grid kept firsts c (get_or found c 0)
+use Rattle.rbbi_canon.specs.inner.Columns.{HasColumn, AreKept}
 
 -- the columns of categories by which every row leads on alike are the same
 same_columns : (grid : Grid) (c d : ℕ) (these those : List ℕ) → IsColumn grid c these → IsColumn grid d those → LeadOnAlike grid c d → these ≡ those

@@ -14,7 +14,7 @@ use Rattle.rbbi_table.proofs.RangeLemmas.{category_held}
 use Rattle.rbbi_canon.specs.declared.letters.Letter.{Letter}
 use Rattle.rbbi_canon.specs.inner.Joins.{JoinsLabels, AreJoinedBy}
 use Rattle.rbbi_canon.specs.inner.Letters.{letter_at, IsLetter, AreLetters, start_or_end, first_character, IsConnected, StayConnected, AreLettersSoFar}
-use Rattle.rbbi_canon.proofs.Sets.{one_more, stay}
+use Rattle.rbbi_canon.proofs.Sets.{one_more}
 
 -- some range holds each code point
 holder_from : (range : CategoryRange) (ranges : List CategoryRange) (c : ℕ) → range.start ≤ c → (k : ℕ) × HoldsCodePoint (range ∷ ranges) k c

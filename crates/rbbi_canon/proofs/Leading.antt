@@ -1,5 +1,5 @@
 -- The text that leads to a pair, from its end.
-use Rattle.std.proofs.Common.{◌≡◌, ◌≢◌, ◌⊎◌, ℕ, ◌<◌, List, [], length, map, ap}
+use Rattle.std.proofs.Common.{◌≡◌, ◌≢◌, ◌⊎◌, ℕ, ◌<◌, List, [], length, map}
 use Rattle.rbbi_model.specs.Words.{IsText}
 use Rattle.rbbi_model.specs.Tables.{Table, category_of, row_along}
 use Rattle.rbbi_canon.specs.declared.pairs.Pair.{Pair}

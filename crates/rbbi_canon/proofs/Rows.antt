@@ -1,5 +1,5 @@
 -- The rows of a valid table that words lead to.
-use Rattle.std.proofs.Common.{◌≡◌, ◌≢◌, ℕ, zero, suc, ◌+◌, ◌<◌, List, [], ◌∷◌, ◌++◌, length, map, refl, ap, sym, ◌∙◌, arith}
+use Rattle.std.proofs.Common.{◌≡◌, ◌≢◌, ℕ, zero, suc, ◌<◌, List, [], ◌∷◌, ◌++◌, length, map, refl, ap, sym, ◌∙◌, arith}
 use Rattle.std.proofs.lemmas.List.{map-append}
 use Rattle.rbbi_model.specs.Words.{IsWord, IsCodePoint}
 use Rattle.rbbi_model.specs.Tables.{Table, category_of, head_of, statuses_of, step, row_along, row_after}

@@ -1,5 +1,5 @@
 -- Labels of disjoint sets: none is joined, and one more pair is.
-use Rattle.std.proofs.Common.{◌≡◌, ◌≢◌, ℕ, ◌+◌, ◌<◌, Bool, true, false, eqb, cond, List, length, get_or, ap, sym, ◌∙◌, ⊎_elim, arith, below_more}
+use Rattle.std.proofs.Common.{◌≡◌, ◌≢◌, ℕ, ◌+◌, ◌<◌, eqb, cond, List, length, get_or, ap, sym, ◌∙◌, ⊎_elim, arith, below_more}
 use Rattle.std.proofs.lemmas.Bool.{cases_eq, cond-true, cond-false, eq-eqb, ne_eqb}
 use Rattle.rbbi_canon.specs.inner.Joins.{JoinsLabels, AreJoinedBy}
 use Rattle.rbbi_canon.specs.inner.Letters.{StayConnected}

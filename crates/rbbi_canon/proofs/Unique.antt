@@ -434,15 +434,10 @@ module _ (S T A B : Table) (a : IsCanonical S A) (b : IsCanonical T B) (categori
       subst (λ n. ArePairsOf (rows_of n A.rows A.cells B.safe)) (sym categories)
       (subst (λ (l : List RowHead). ArePairsOf (rows_of B.categories l A.cells B.safe)) (sym rows_same)
       (subst (λ (l : List ℕ). ArePairsOf (rows_of B.categories B.rows l B.safe)) (sym cells) own)) in
-      sym (stored_are {table = A} {bytes = B.safe} (record { cells = a.valid.well_formed.cells; safe = a.valid.well_formed.safe }) (record {
-        ranges = a.valid.ranges;
-        lists = a.valid.lists;
-        rows = a.valid.rows;
-        fronts = a.valid.fronts;
-        pairs = pairs;
-        small = small_byte B.safe b.valid.well_formed.bytes;
-        stored = small_byte A.safe a.valid.well_formed.bytes;
-      }) a.valid.safe)
+      let means = stored_are {table = A} {bytes = B.safe} (record { cells = a.valid.well_formed.cells; safe = a.valid.well_formed.safe })
+      a.valid.ranges.some_categories
+      (record { pairs = pairs; small = small_byte B.safe b.valid.well_formed.bytes; stored = small_byte A.safe a.valid.well_formed.bytes }) in
+      sym (means.1 a.valid.safe)
 
   pub tables_same : A ≡ B
   tables_same = λ i. record {

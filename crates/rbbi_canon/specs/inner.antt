@@ -3,6 +3,7 @@ pub mod Joins
 pub mod Letters
 pub mod Pairs
 pub mod Grids
+pub mod Columns
 pub mod Numberings
 pub mod Ranges
 pub mod Walks

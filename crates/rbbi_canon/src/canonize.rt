@@ -25,7 +25,7 @@ pub fn canonical(alloc: Global, table: &Table) -> Result<Table, AllocError>
 {
     table.valid();
     let parts = canonical_parts(alloc, table)?;
-    Ok(Table::from_valid(alloc, &parts)?)
+    Ok(Table::from_valid(alloc, parts)?)
 }
 
 /// The parts of the canonical table.

@@ -8,7 +8,7 @@ use rbbi_table::Table;
 use std::alloc::{AllocError, Global};
 
 /// The least of the characters with these two categories, one in each of two tables.
-#[derive(Clone, Copy, Debug)]
+#[derive(Clone, Copy)]
 pub(crate) struct Letter {
     pub character: char,
     pub this: u16,

@@ -11,7 +11,7 @@ use std::alloc::{AllocError, Global};
 
 /// Two rows, one of each table, to which a text leads: the letter with a number leads there from
 /// the pair with the number `from`. The first pair is that of the rows 1.
-#[derive(Clone, Copy, Debug)]
+#[derive(Clone, Copy)]
 pub(crate) struct Pair {
     pub this: u16,
     pub that: u16,

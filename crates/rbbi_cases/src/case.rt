@@ -20,8 +20,9 @@ pub(crate) struct Case {
     pub(crate) files: MemFiles,
     /// The same files, as `segment` reads texts.
     pub(crate) texts: MemFiles,
-    /// How many bytes of a text `segment` reads at once, at most.
-    pub(crate) block: u32,
+    /// How many bytes of a text `segment` reads at once, and in how many characters it looks for a
+    /// segment's end.
+    pub(crate) sizes: Sizes,
     pub(crate) input: Vec<u8>,
     pub(crate) out: MemSink,
     pub(crate) errors: MemSink,
@@ -62,7 +63,7 @@ impl Case {
             words: Vec::new(alloc),
             files: MemFiles::new(alloc),
             texts: MemFiles::new(alloc),
-            block: Sizes::USUAL.block,
+            sizes: Sizes::USUAL,
             input: Vec::new(alloc),
             out: MemSink::new(alloc),
             errors: MemSink::new(alloc),
@@ -150,7 +151,8 @@ impl Case {
             "fail-put" => self.out.fail_at(number(text)?.into())?,
             "put-at-most" => self.out.at_most((number(text)? as usize).max(1)),
             "calls" => self.want(Wanted::Count(Counted::Calls, number(text)?.into()))?,
-            "block" => self.block = number(text)?,
+            "block" => self.sizes.block = number(text)?,
+            "limit" => self.sizes.limit = number(text)?,
             "puts" => self.want(Wanted::Count(Counted::Puts, number(text)?.into()))?,
             _ => return Err(CaseErr::Wrong("no such key")),
         }

@@ -3,6 +3,9 @@ use crate::error::CaseErr;
 use rbbi_text::{append, decimal, hexadecimal};
 use std::alloc::Global;
 
+/// The letters of numbered names.
+const LETTERS: &[u8; 52] = b"ABCDEFGHIJKLMNOPQRSTUVWXYZabcdefghijklmnopqrstuvwxyz";
+
 /// Braces without hexadecimal digits of a character.
 const NO_CHARACTER: CaseErr = CaseErr::Wrong("an escape of no character");
 
@@ -17,7 +20,8 @@ pub(crate) fn split_once(text: &[u8], byte: u8) -> Option<(&[u8], &[u8])> {
 }
 
 /// The bytes of a text in which `%HH` is a byte, `%{H..}` a character, `%{H....H..}` all characters
-/// from the first to the last, and `%{N*TEXT}` the text so many times.
+/// from the first to the last, `%{N*TEXT}` the text so many times, and `%{N#TEXT}` likewise, with
+/// numbers in it.
 pub(crate) fn unescaped(alloc: Global, text: &[u8]) -> Result<Vec<u8>, CaseErr> {
     let mut bytes = Vec::new(alloc);
     let mut rest = text;
@@ -67,21 +71,29 @@ fn push_braced<'a>(
     bytes: &mut Vec<u8>,
 ) -> Result<&'a [u8], CaseErr> {
     let (inner, rest) = split_once(after, b'}').ok_or(CaseErr::Wrong("no } after %{"))?;
-    match split_once(inner, b'*') {
-        Some((times, piece)) => push_times(alloc, times, piece, bytes)?,
-        None => push_characters(alloc, inner, bytes)?,
+    if let Some((times, piece)) = split_once(inner, b'*') {
+        let one = with_bytes(alloc, piece)?;
+        for _ in 0..number_of(times)? {
+            append(one.as_slice(), bytes)?;
+        }
+    } else if let Some((times, piece)) = split_once(inner, b'#') {
+        let one = with_bytes(alloc, piece)?;
+        for number in 0..number_of(times)? {
+            push_numbered(one.as_slice(), number, bytes)?;
+        }
+    } else {
+        push_characters(alloc, inner, bytes)?;
     }
     Ok(rest)
 }
 
-/// Appends the piece so many times. It may have escapes of bytes.
-fn push_times(
-    alloc: Global,
-    times: &[u8],
-    piece: &[u8],
-    bytes: &mut Vec<u8>,
-) -> Result<(), CaseErr> {
-    let times = decimal(times, 999_999_999).ok_or(CaseErr::Wrong("a number is wanted"))?;
+/// How many times a text stands.
+fn number_of(times: &[u8]) -> Result<u32, CaseErr> {
+    decimal(times, 999_999_999).ok_or(CaseErr::Wrong("a number is wanted"))
+}
+
+/// The text with its escapes of bytes replaced.
+fn with_bytes(alloc: Global, piece: &[u8]) -> Result<Vec<u8>, CaseErr> {
     let mut one = Vec::new(alloc);
     let mut rest = piece;
     for _ in 0..piece.len() {
@@ -92,8 +104,26 @@ fn push_times(
         rest = push_byte(after, &mut one)?;
     }
     append(rest, &mut one)?;
-    for _ in 0..times {
-        append(one.as_slice(), bytes)?;
+    Ok(one)
+}
+
+/// Appends the piece with the number of this time, from 1, for each `#`, and for each `@` that of
+/// the time before.
+fn push_numbered(piece: &[u8], before: u32, bytes: &mut Vec<u8>) -> Result<(), CaseErr> {
+    for byte in piece {
+        match *byte {
+            b'#' => push_number(before as usize + 1, bytes)?,
+            b'@' => push_number(before as usize, bytes)?,
+            other => bytes.push(other)?,
+        }
+    }
+    Ok(())
+}
+
+/// Appends a number in three letters, `AAA` for 0, which begin again after 140,608 numbers.
+fn push_number(number: usize, bytes: &mut Vec<u8>) -> Result<(), CaseErr> {
+    for unit in [2704, 52, 1] {
+        bytes.push(LETTERS[number / unit % 52])?;
     }
     Ok(())
 }

@@ -3,7 +3,7 @@ ghost use Rattle.std.specs.Prelude.{◌≡◌, ◌<◌};
 
 use crate::case::{Case, Counted, Wanted};
 use rbbi_io::MemFiles;
-use rbbi_segment::{Sizes, Surroundings, System, segment};
+use rbbi_segment::{CommandLine, Sizes, Surroundings, System, segment};
 use rbbi_text::Steps;
 use rbbi_tool::rbbi;
 use std::alloc::{AllocError, Global};
@@ -12,20 +12,16 @@ use std::marker::Brand;
 use std::sync::ledger::{Blank, Ledger};
 
 /// No terminal is anywhere.
-fn surroundings(block: u32) -> Surroundings {
+fn surroundings(sizes: Sizes) -> Surroundings {
     Surroundings {
         output_is_terminal: false,
         errors_are_on_terminal: false,
         no_color: false,
-        sizes: Sizes {
-            block,
-            ..Sizes::USUAL
-        },
+        sizes,
     }
 }
 
-/// A system in which `.` is a folder, other files that can't be read aren't there, and nobody knows
-/// why the output fails.
+/// A system in which other files than the texts aren't there, and nobody knows why the output fails.
 #[derive(Clone, Copy)]
 struct Memory<'a> {
     /// The texts, which are those of the files.
@@ -46,11 +42,6 @@ impl<'a> System for Memory<'a> {
         }
     }
 
-    fn unread(&self, name: &str) -> Option<io::Error> {
-        let number = if name == "." { 21 } else { 2 };
-        Some(io::Error::from_raw_os_error(number))
-    }
-
     fn unwritten(&self) -> Option<io::Error> {
         None
     }
@@ -61,11 +52,12 @@ fn status_by<L: Ledger>(alloc: Global, case: &mut Case, steps: &mut Steps<L>) ->
     if !case.is_segment {
         return rbbi(alloc, &case.words, &mut case.files, &mut case.out, steps);
     }
-    let surroundings = surroundings(case.block);
+    let surroundings = surroundings(case.sizes);
     let system = Memory { texts: &case.texts };
+    let line = CommandLine::parse(alloc, &case.words);
     segment(
         alloc,
-        &case.words,
+        &line,
         surroundings,
         &system,
         &mut case.files,

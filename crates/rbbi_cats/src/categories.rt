@@ -17,7 +17,7 @@ use std::alloc::Global;
 use std::marker::Model;
 
 /// The categories of code points. Contracts see their number, and their ranges.
-#[derive(Debug, Drop)]
+#[derive(Drop)]
 pub struct Categories {
     count: u16,
     ranges: Vec<CatRange>,

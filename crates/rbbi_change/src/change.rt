@@ -14,7 +14,7 @@ use rbbi_text::{Chars, Steps};
 use std::sync::ledger::Ledger;
 
 /// An edit: so many characters are put in place of those removed from `at` on, from 0.
-#[derive(Clone, Copy, Debug)]
+#[derive(Clone, Copy)]
 pub struct Edit {
     /// Where it begins.
     pub at: u32,
@@ -26,7 +26,7 @@ pub struct Edit {
 
 /// A range of a text before and after an edit, in characters from 0. Boundaries that lie before
 /// `from` are the old ones, and those past the range are the old ones, moved by the edit.
-#[derive(Clone, Copy, Debug)]
+#[derive(Clone, Copy)]
 pub struct Change {
     /// Where the range begins, in both texts.
     pub from: u32,

@@ -22,7 +22,7 @@ use std::slice;
 /// The words are the set's own, or stand in chunks that it shares with other sets: a set that a
 /// `ClassShelf` keeps has chunks, or its one word without further memory, and one that an operation
 /// makes has words of its own. The other operand is read piece by piece, in whichever form it is.
-#[derive(Debug, Drop)]
+#[derive(Drop)]
 pub struct ClassSet {
     /// How many words, all 0, stand before those that are kept.
     from: usize,
@@ -31,7 +31,7 @@ pub struct ClassSet {
 }
 
 /// How the words of a set are kept.
-#[derive(Debug, Drop)]
+#[derive(Drop)]
 enum Words {
     /// A row of the set's own.
     Own(Vec<u64>),

@@ -33,7 +33,7 @@ const SURROGATES: [Step; 2] = [
 /// Classes are numbered by their least code points. Contracts see the partition as the first code
 /// points of its classes (but for 0) and the steps of the function from a code point to the number
 /// of its class.
-#[derive(Debug, Drop)]
+#[derive(Drop)]
 pub struct Division {
     layout: Layout,
     steps: Vec<Step>,

@@ -7,7 +7,7 @@ use std::marker::Model;
 
 /// The first code points of the classes of a `Division`, but for class 0, which begins at 0. They
 /// rise. Contracts see it as their list (`AreBounds`).
-#[derive(Debug, Drop)]
+#[derive(Drop)]
 pub struct Layout {
     bounds: Vec<u32>,
 }
@@ -24,7 +24,7 @@ impl Model for Layout {
 }
 
 /// The classes from one to another, both counted.
-#[derive(Clone, Copy, Debug)]
+#[derive(Clone, Copy)]
 pub(crate) struct ClassSpan {
     pub first: usize,
     pub last: usize,

@@ -11,7 +11,7 @@ use rbbi_sets::CodeSet;
 use std::alloc::{AllocError, Global};
 
 /// From the code point `start` on, up to the next step, code points have this number.
-#[derive(Clone, Copy, Debug)]
+#[derive(Clone, Copy)]
 pub struct Step {
     /// The first code point with the number.
     pub start: u32,

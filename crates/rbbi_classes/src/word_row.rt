@@ -7,7 +7,7 @@ use crate::ClassSet;
 use crate::operation::Operation;
 
 /// A row of words, of which the first one has the number `from`.
-#[derive(Debug, Drop)]
+#[derive(Drop)]
 pub(crate) struct WordRow {
     pub(crate) from: usize,
     pub(crate) words: Vec<u64>,

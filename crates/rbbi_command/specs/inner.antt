@@ -1,3 +1,4 @@
 -- What only this crate's own code and proofs cite. Nothing that is promised rests on it.
 pub mod Reads
 pub mod Delivery
+pub mod Inputs

@@ -13,7 +13,7 @@ use rbbi_text::{MOST_BYTES, Raw};
 use std::alloc::{AllocError, Global};
 
 /// What a file is to the program.
-#[derive(Clone, Copy, Debug)]
+#[derive(Clone, Copy)]
 pub enum Role {
     /// A property file.
     Property,
@@ -34,7 +34,7 @@ pub enum Role {
 }
 
 /// A file that is to be read.
-#[derive(Debug, Drop)]
+#[derive(Drop)]
 pub struct Source {
     pub role: Role,
     pub name: Name,

@@ -3,6 +3,7 @@ ghost use Rattle.std.specs.Prelude.{◌≡◌, [], IfOk, IfErr, IfSome, OnOk};
 ghost use Rattle.rbbi_io.specs.Counts.{EachGoesOn, EachStays};
 ghost use Rattle.rbbi_command.specs.declared.inputs.Input.{Input};
 ghost use Rattle.rbbi_command.specs.Inputs as spec;
+ghost use Rattle.rbbi_command.specs.inner.Inputs.{IsNamed};
 ghost use Rattle.rbbi_command.specs.Reads.{AreRead, EndsReading, MakesSomeReads};
 ghost use Rattle.rbbi_command.specs.Reads.{EndsAtRefusedRead};
 
@@ -13,14 +14,14 @@ use rbbi_text::Raw;
 use std::alloc::{AllocError, Global};
 
 /// A file whose faults are reported under its name.
-#[derive(Debug, Drop)]
+#[derive(Drop)]
 pub struct Input {
     pub name: Name,
     pub bytes: Raw,
 }
 
 /// What was read, by what it is to the program. A file that a request doesn't name is empty.
-#[derive(Debug, Drop)]
+#[derive(Drop)]
 pub struct Inputs {
     /// The property files, in order.
     pub properties: Vec<Raw>,
@@ -50,28 +51,45 @@ impl Input {
     }
 
     /// A file that a request doesn't name.
-    fn none(alloc: Global) -> Result<Input, AllocError>
-        ensures { IfOk result (λ input. input ≡ record { name = []; bytes = [] }) }
+    fn none(alloc: Global) -> Input
+        ensures { result ≡ record { name = []; bytes = [] } }
     {
-        Input::new(alloc, "", Raw::new(Vec::new(alloc)))
+        Input {
+            name: Name::empty(alloc),
+            bytes: Raw::new(Vec::new(alloc)),
+        }
     }
 }
 
 impl Inputs {
     /// No file is read yet.
-    fn new(alloc: Global) -> Result<Inputs, AllocError>
-        ensures { IfOk result (λ inputs. spec.inputs_in inputs ≡ spec.no_inputs) }
+    fn new(alloc: Global) -> Inputs
+        ensures { spec.inputs_in result ≡ spec.no_inputs }
     {
-        Ok(Inputs {
+        Inputs {
             properties: Vec::new(alloc),
-            filter: Input::none(alloc)?,
+            filter: Input::none(alloc),
             rules: Raw::new(Vec::new(alloc)),
             other_rules: Raw::new(Vec::new(alloc)),
             table: Raw::new(Vec::new(alloc)),
-            text: Input::none(alloc)?,
-            script: Input::none(alloc)?,
-            tests: Input::none(alloc)?,
-        })
+            text: Input::none(alloc),
+            script: Input::none(alloc),
+            tests: Input::none(alloc),
+        }
+    }
+
+    /// Puts a file whose faults are reported under its name in the place of its role.
+    fn put_named(&mut self, role: Role, input: Input)
+        requires { IsNamed role }
+        ensures { spec.inputs_in self.new
+            ≡ spec.put role input.name input.bytes (spec.inputs_in self.old) }
+    {
+        match role {
+            Role::Filter => self.filter = input,
+            Role::Text => self.text = input,
+            Role::Script => self.script = input,
+            _ => self.tests = input,
+        }
     }
 
     /// Puts what a file holds in the place of its role.
@@ -79,19 +97,48 @@ impl Inputs {
         ensures { OnOk result (spec.inputs_in self.new
             ≡ spec.put source.now.role source.now.name bytes (spec.inputs_in self.old)) }
     {
-        let name = source.name.as_str();
         match source.role {
             Role::Property => self.properties.push(bytes)?,
-            Role::Filter => self.filter = Input::new(alloc, name, bytes)?,
             Role::Rules => self.rules = bytes,
             Role::OtherRules => self.other_rules = bytes,
             Role::Table => self.table = bytes,
-            Role::Text => self.text = Input::new(alloc, name, bytes)?,
-            Role::Script => self.script = Input::new(alloc, name, bytes)?,
-            Role::Tests => self.tests = Input::new(alloc, name, bytes)?,
+            role => {
+                let input = Input::new(alloc, source.name.as_str(), bytes)?;
+                self.put_named(role, input);
+            }
         }
         Ok(())
     }
+}
+
+/// Reads the files in order, each once, into the places of their roles, up to the first that is
+/// refused.
+fn read_into<F: Files>(
+    alloc: Global,
+    sources: &[Source],
+    files: &mut F,
+    inputs: &mut Inputs,
+) -> Result<(), Refusal>
+    requires { spec.inputs_in inputs.old ≡ spec.no_inputs }
+    ensures short { OnOk result (spec.AreShort (spec.inputs_in inputs.new)) }
+    ensures read { OnOk result
+        (IfSome (F.contents files.old) (AreRead sources.now (spec.inputs_in inputs.new))) }
+    ensures refused { IfErr result (EndsReading sources.now (F.contents files.old)
+        (F.failed_reads files.old) (F.failed_reads files.new)) }
+    ensures order { IfSome (F.contents files.old) (MakesSomeReads sources.now
+        (F.failed_reads files.old) (F.failed_reads files.new)) }
+    ensures calls { EndsAtRefusedRead F.read_gives sources.now files.old result files.new }
+    ensures calm { OnOk result (EachStays (F.failed_reads files.old) (F.failed_reads files.new)) }
+
+    ensures same { F.contents files.new ≡ F.contents files.old }
+    ensures reads { EachGoesOn (F.failed_reads files.old) (F.failed_reads files.new) }
+    ensures writes { EachStays (F.failed_writes files.old) (F.failed_writes files.new) }
+{
+    for source in sources {
+        let bytes = read_one(alloc, source, files)?;
+        inputs.put(alloc, source, bytes)?;
+    }
+    Ok(())
 }
 
 /// Reads the files in order, each once, into the places of their roles. The first that can't be
@@ -115,10 +162,9 @@ pub fn read_all<F: Files>(
     ensures reads { EachGoesOn (F.failed_reads files.old) (F.failed_reads files.new) }
     ensures writes { EachStays (F.failed_writes files.old) (F.failed_writes files.new) }
 {
-    let mut inputs = Inputs::new(alloc)?;
-    for source in sources {
-        let bytes = read_one(alloc, source, files)?;
-        inputs.put(alloc, source, bytes)?;
+    let mut inputs = Inputs::new(alloc);
+    match read_into(alloc, sources, files, &mut inputs) {
+        Ok(()) => Ok(inputs),
+        Err(refusal) => Err(refusal),
     }
-    Ok(inputs)
 }

@@ -1,11 +1,11 @@
 //! Names that are kept.
-ghost use Rattle.std.specs.Prelude.{◌≡◌, IfOk};
+ghost use Rattle.std.specs.Prelude.{◌≡◌, [], IfOk};
 
 use std::alloc::{AllocError, Global};
 use std::marker::Model;
 
 /// The name of a file or of a fault. Contracts see its bytes.
-#[derive(Debug, Drop)]
+#[derive(Drop)]
 pub struct Name {
     text: String,
 }
@@ -26,6 +26,15 @@ impl Name {
         Ok(Name {
             text: String::from_str(alloc, text)?,
         })
+    }
+
+    /// The name with no bytes.
+    pub(crate) fn empty(alloc: Global) -> Name
+        ensures { result ≡ [] }
+    {
+        Name {
+            text: String::new(alloc),
+        }
     }
 
     /// The name as text.

@@ -4,7 +4,7 @@ use crate::Name;
 use std::marker::Model;
 
 /// A file that is written. Contracts see its name and its bytes.
-#[derive(Debug, Drop)]
+#[derive(Drop)]
 pub struct Written {
     /// The name of the file.
     pub name: Name,
@@ -21,7 +21,7 @@ impl Model for Written {
 }
 
 /// The output of a command. Contracts see the status, the bytes and the file.
-#[derive(Debug, Drop)]
+#[derive(Drop)]
 pub struct Output {
     /// The exit status.
     pub status: u8,

@@ -11,7 +11,7 @@ use crate::Name;
 use std::alloc::{AllocError, Global};
 
 /// The file that a fault is reported for.
-#[derive(Debug, Drop)]
+#[derive(Drop)]
 pub enum Subject {
     /// The rule file, or the first of two.
     Rules,
@@ -24,7 +24,7 @@ pub enum Subject {
 }
 
 /// Where in a file a fault stands.
-#[derive(Clone, Copy, Debug)]
+#[derive(Clone, Copy)]
 pub enum Place {
     /// In the file as a whole.
     Whole,
@@ -37,7 +37,7 @@ pub enum Place {
 }
 
 /// What ends a run before its output.
-#[derive(Debug, Drop)]
+#[derive(Drop)]
 pub enum Refusal {
     /// The arguments are invalid.
     Usage,

@@ -5,7 +5,7 @@ use rbbi_text::{PlainText, Values};
 use std::marker::Model;
 
 /// A text, and for each place after one of its characters whether a boundary is marked there.
-#[derive(Debug, Drop)]
+#[derive(Drop)]
 pub struct Test {
     line: u32,
     text: PlainText,

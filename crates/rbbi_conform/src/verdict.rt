@@ -10,7 +10,7 @@ use rbbi_text::{Chars, Steps};
 use std::sync::ledger::Ledger;
 
 /// What a table says of a test.
-#[derive(Clone, Copy, Debug, PartialEq, Eq)]
+#[derive(Clone, Copy, PartialEq, Eq)]
 pub enum Verdict {
     /// Each mark but the first is that of the table's boundaries.
     Same,

@@ -7,7 +7,7 @@ const CHARACTERS: [char; 8] = ['a', 'b', 'c', '1', '2', ' ', '.', '\u{308}'];
 
 /// A linear congruential generator. Each draw sets the state, and gives the state without its low
 /// eight bits, whose periods are short.
-#[derive(Debug, Drop)]
+#[derive(Drop)]
 pub(crate) struct Generator {
     /// The state, at first the number that the generator is made from.
     pub(crate) state: u32,

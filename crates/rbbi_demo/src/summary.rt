@@ -1,7 +1,7 @@
 //! The result of a demonstration.
 
 /// The result of a demonstration.
-#[derive(Clone, Copy, Debug)]
+#[derive(Clone, Copy)]
 pub struct Summary {
     /// The length of the last text, in characters.
     pub chars: u32,

@@ -118,11 +118,3 @@ module _ (rows : PositionRows) where
             (λ category small. same (j + 2) category (omega (arith, before)) small) (are.each j before)))
             (cases_eq j i);
       }
-
--- what the loop over the sets keeps
-pub record IsLed (rows : PositionRows) (sets : List (List ℕ)) (cells candidates next : List ℕ) (i : ℕ) : Type 0 where
-  pub reached : AreReachedSets rows sets
-  pub within : i ≤ length sets
-  pub led : AreCellsUpTo rows sets cells i
-  pub wide : length candidates ≡ rows.width
-  pub wide_next : length next ≡ rows.width

@@ -1,8 +1,10 @@
 //! From positions to a determinised automaton: each row is the set of the positions by which the
 //! last character of a word can be read (subset construction; Rabin and Scott 1959).
-ghost use Rattle.std.specs.Prelude.{◌≡◌, ◌≢◌, ◌≤◌, ◌<◌, ℕ, List, [], length, IfOk, OnOk};
+ghost use Rattle.std.specs.Prelude.{◌≡◌, ◌≢◌, ◌+◌, ◌≤◌, ◌<◌, ℕ, List, [], length, IfOk, OnOk};
 ghost use Rattle.rbbi_dfa.specs.inner.Determinizing.{AreReachedSets, AreReachedCandidates, Begin};
 ghost use Rattle.rbbi_dfa.specs.inner.Determinizing.{AddsCells, AddsZeros, AreCellsUpTo, AreMarked};
+ghost use Rattle.rbbi_dfa.specs.inner.Determinizing.{IsLed};
+ghost use Rattle.rbbi_dfa.specs.inner.LastWords.{AreKept};
 ghost use Rattle.rbbi_dfa.specs.inner.Determinizing.{HasReachedSets, IsDeterminized};
 ghost use Rattle.rbbi_bits.specs.NumberedRows.{items_of, listed_row, IsUnlisted, KeepsOrAdds};
 ghost use Rattle.rbbi_model.specs.Rules.{Rule};
@@ -86,6 +88,69 @@ fn lead_nowhere(rows: &Rows, cells: &mut Vec<u16>) -> Result<(), AllocError>
     Ok(())
 }
 
+/// Adds the cells of the row of a set, with the sets that are found on the way. `candidates` and
+/// `next` are scratch.
+fn lead_set(
+    alloc: Global,
+    rows: &Rows,
+    sets: &mut NumberedRows,
+    i: usize,
+    candidates: &mut [u64],
+    next: &mut [u64],
+    last: &mut LastWords,
+    cells: &mut Vec<u16>,
+) -> Result<(), BuildErr>
+    requires short { i < length sets.old }
+    requires led { IsLed rows.now sets.old cells.old.items candidates.old next.old i }
+    requires kept { AreKept rows.now last.old.words.items last.old.unions.items }
+    ensures led { OnOk result
+        (IsLed rows.now sets.new cells.new.items candidates.new next.new (i + 1)) }
+    ensures kept { OnOk result (AreKept rows.now last.new.words.items last.new.unions.items) }
+    ensures alone { (result ≢ Err BuildErr.TooManyRows) × (result ≢ Err BuildErr.TooManyStatuses) }
+    ensures refused { result ≡ Err BuildErr.TooManySets → HasReachedSets rows.now 16385 }
+{
+    let set = sets.get(i);
+    if step::completes(rows, set) {
+        lead_nowhere(rows, cells)?;
+        return Ok(());
+    }
+    last.follow(alloc, rows, set, candidates)?;
+    lead_on(alloc, rows, candidates, sets, next, cells)?;
+    Ok(())
+}
+
+/// Adds to no cells those of rows 0 and 1 and of a row for each set, with the sets that are found
+/// on the way.
+fn lead_sets(
+    alloc: Global,
+    rows: &Rows,
+    sets: &mut NumberedRows,
+    candidates: &mut [u64],
+    next: &mut [u64],
+    last: &mut LastWords,
+    cells: &mut Vec<u16>,
+) -> Result<(), BuildErr>
+    requires sets { sets.old ≡ [] }
+    requires cells { cells.old.items ≡ [] }
+    requires candidates { length candidates.old ≡ rows.now.width }
+    requires next { length next.old ≡ rows.now.width }
+    requires kept { AreKept rows.now last.old.words.items last.old.unions.items }
+    ensures reached { OnOk result (AreReachedSets rows.now sets.new) }
+    ensures cells { OnOk result
+        (AreCellsUpTo rows.now sets.new cells.new.items (length sets.new)) }
+    ensures alone { (result ≢ Err BuildErr.TooManyRows) × (result ≢ Err BuildErr.TooManyStatuses) }
+    ensures refused { result ≡ Err BuildErr.TooManySets → HasReachedSets rows.now 16385 }
+{
+    lead_nowhere(rows, cells)?;
+    lead_on(alloc, rows, &rows.first, sets, next, cells)?;
+    let mut i = 0;
+    while i < sets.len() {
+        lead_set(alloc, rows, sets, i, candidates, next, last, cells)?;
+        i += 1;
+    }
+    Ok(())
+}
+
 /// The cells of rows 0 and 1 and of a row for each set, with the sets that are found on the way.
 fn lead_all(alloc: Global, rows: &Rows, sets: &mut NumberedRows) -> Result<Vec<u16>, BuildErr>
     requires { sets.old ≡ [] }
@@ -101,19 +166,7 @@ fn lead_all(alloc: Global, rows: &Rows, sets: &mut NumberedRows) -> Result<Vec<u
     let next = next_row.as_mut_slice();
     let mut last = LastWords::new(alloc, rows)?;
     let mut cells: Vec<u16> = Vec::new(alloc);
-    lead_nowhere(rows, &mut cells)?;
-    lead_on(alloc, rows, &rows.first, sets, next, &mut cells)?;
-    let mut i = 0;
-    while i < sets.len() {
-        let set = sets.get(i);
-        if step::completes(rows, set) {
-            lead_nowhere(rows, &mut cells)?;
-        } else {
-            last.follow(alloc, rows, set, candidates)?;
-            lead_on(alloc, rows, candidates, sets, next, &mut cells)?;
-        }
-        i += 1;
-    }
+    lead_sets(alloc, rows, sets, candidates, next, &mut last, &mut cells)?;
     Ok(cells)
 }
 

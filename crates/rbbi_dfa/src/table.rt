@@ -26,7 +26,7 @@ pub(crate) fn least_table(
 {
     let least = least(alloc, automaton)?;
     let parts = parts_of(alloc, least, ranges)?;
-    Ok(Table::from_valid(alloc, &parts)?)
+    Ok(Table::from_valid(alloc, parts)?)
 }
 
 /// The least automaton with the same marks along all categories, with at most 4,095 rows. Its

@@ -2,7 +2,7 @@
 
 /// A part of a segment that a rule took, with the number of the rule in the file, from 0. Places
 /// are in characters from 0. It begins with the last character of the part before.
-#[derive(Clone, Copy, Debug)]
+#[derive(Clone, Copy)]
 pub struct Part {
     pub rule: u32,
     pub start: u32,
@@ -10,7 +10,7 @@ pub struct Part {
 }
 
 /// Why a segment ends where it does.
-#[derive(Clone, Copy, Debug)]
+#[derive(Clone, Copy)]
 pub enum Reason {
     /// It is the longest match.
     LongestMatch,
@@ -22,7 +22,7 @@ pub enum Reason {
 
 /// A rule with a status number that ends where the segment has its statuses from: at its end, or
 /// where a look-ahead rule is complete. The last match of its chain begins at `start`.
-#[derive(Clone, Copy, Debug)]
+#[derive(Clone, Copy)]
 pub struct Origin {
     pub status: u32,
     pub rule: u32,
@@ -30,7 +30,7 @@ pub struct Origin {
 }
 
 /// Why a segment is one.
-#[derive(Debug, Drop)]
+#[derive(Drop)]
 pub struct Explanation {
     /// Where the segment ends by the rules.
     pub end: u32,

@@ -7,7 +7,7 @@ use std::alloc::{AllocError, Global};
 const MOST: u32 = 160;
 
 /// A rule as its file has it.
-#[derive(Debug, Drop)]
+#[derive(Drop)]
 pub struct RuleText {
     /// The line of its first token, from 1. Lines end at LF.
     pub line: u32,

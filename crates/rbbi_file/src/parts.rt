@@ -1,5 +1,5 @@
 //! The parts of a table from bytes.
-ghost use Rattle.std.specs.Prelude.{◌≡◌, ◌+◌, ◌*◌, ◌^◌, ◌<◌, ◌≤◌, length, IfOk, OnOk, flat_map};
+ghost use Rattle.std.specs.Prelude.{◌≡◌, [], ◌+◌, ◌*◌, ◌^◌, ◌<◌, ◌≤◌, length, IfOk, OnOk, flat_map};
 ghost use Rattle.std.specs.List.{AllByRecursion};
 ghost use Rattle.rbbi_model.specs.TableFile.{u16 as two_bytes, u32 as four_bytes, range_bytes};
 ghost use Rattle.rbbi_model.specs.TableFile.{list_bytes, head_bytes};
@@ -118,6 +118,34 @@ fn add_cells(
     Ok(())
 }
 
+/// Fills the lists of heads and of next rows with those of `count` rows, which are read at a place.
+fn add_rows(
+    rows: &mut Vec<RowHead>,
+    cells: &mut Vec<u16>,
+    bytes: &[u8],
+    size: usize,
+    at: usize,
+    count: usize,
+    width: usize,
+) -> Result<(), AllocError>
+    requires rows { rows.old.items ≡ [] }
+    requires cells { cells.old.items ≡ [] }
+    requires some { 1 ≤ size }
+    requires few { size ≤ 2 }
+    requires narrow { width < 2 ^ 16 }
+    requires whole { at + rows_size size count width ≤ length bytes.now }
+    ensures { OnOk result
+        (AreRowsAt size bytes.now width count rows.new.items cells.new.items at) }
+{
+    let mut start = at;
+    for _row in 0..count {
+        rows.push(head_at(bytes, start))?;
+        add_cells(cells, bytes, size, start + 8, width)?;
+        start += row_size(size, width);
+    }
+    Ok(())
+}
+
 /// Reads `count` rows at a place: their heads, and their next rows, each in one or two bytes.
 pub(crate) fn rows_at(
     alloc: Global,
@@ -136,11 +164,6 @@ pub(crate) fn rows_at(
 {
     let mut rows = Vec::with_capacity(alloc, count)?;
     let mut cells = Vec::with_capacity(alloc, count * width)?;
-    let mut start = at;
-    for _row in 0..count {
-        rows.push(head_at(bytes, start))?;
-        add_cells(&mut cells, bytes, size, start + 8, width)?;
-        start += row_size(size, width);
-    }
+    add_rows(&mut rows, &mut cells, bytes, size, at, count, width)?;
     Ok((rows, cells))
 }

@@ -8,7 +8,6 @@ pub mod Answering
 pub mod UnitAnswers
 pub mod UnitEdits
 pub mod UnitListing
-pub mod UnitPausing
 pub mod Filtering
 pub mod Stretches
 pub mod ListingCosts

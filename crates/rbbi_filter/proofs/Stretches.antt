@@ -27,7 +27,6 @@ use Rattle.rbbi_session.specs.Stretches.{stretch_cost, BeginsStretch}
 use Rattle.rbbi_session.proofs.Places.{all_through, last_skips}
 use Rattle.rbbi_session.proofs.Stretching.{apart}
 use Rattle.rbbi_filter.specs.Abbreviations.{window_size, window, is_suppressed, kept, ends}
-use Rattle.rbbi_filter.specs.Closures.{AnswersEnds}
 use Rattle.rbbi_text.specs.Steps.{RisesUpTo}
 use Rattle.rbbi_filter.specs.Filters.{boundaries_through}
 use Rattle.rbbi_filter.specs.FilterCosts.{back_kept_cost, back_through}
@@ -45,20 +44,16 @@ window_text x at text = text_take (at - (at - 64)) (drop (at - 64) x) (text_drop
 window_short : (x : List ℕ) (at : ℕ) → length (window x at) ≤ 64
 window_short x at = omega (arith, length-take (at - (at - 64)) (drop (at - 64) x))
 
--- the characters before a place may be asked of the predicate, and it answers whether the place is suppressed
-module _ (list : List (List ℕ)) (can_ask : List ℕ → Type 0) (gives : List ℕ → Bool → Type 0) (tells : AnswersEnds can_ask gives list) (x : List ℕ)
-    (text : IsText x) (at : ℕ) (w : List ℕ) (w_is : w ≡ window x at) where
-  short : length w ≤ 64
-  short = subst (λ v. length v ≤ 64) (sym w_is) (window_short x at)
+-- the characters before a place may be asked about, and the answer is whether the place is suppressed
+module _ (x : List ℕ) (text : IsText x) (at : ℕ) (w : List ℕ) (w_is : w ≡ window x at) where
+  pub are_few : length w ≤ 64
+  are_few = subst (λ v. length v ≤ 64) (sym w_is) (window_short x at)
 
-  of_text : IsText w
+  pub of_text : IsText w
   of_text = subst IsText (sym w_is) (window_text x at text)
 
-  pub may_ask : can_ask w
-  may_ask = tells.callable w of_text short
-
-  pub answer_is : 0 < at → at < length x → (is : Bool) → gives w is → is ≡ is_suppressed list x at
-  answer_is some within is given = tells.answers w is of_text short given ∙ ap (ends list) w_is ∙ told_by_window list x at some within
+  pub answer_is : (list : List (List ℕ)) → 0 < at → at < length x → (is : Bool) → is ≡ ends list w → is ≡ is_suppressed list x at
+  answer_is list some within is given = given ∙ ap (ends list) w_is ∙ told_by_window list x at some within
 
 -- fewer are kept by a test that asks more, and one fewer where it leaves out one
 sum_less : (f : Boundary → ℕ) (more less : Boundary → Bool) → ((b : Boundary) → more b ≡ true → less b ≡ true) → (bs : List Boundary) →

@@ -6,7 +6,6 @@ pub mod PairFiles
 pub mod Filters
 pub mod FilterCosts
 pub mod FilterSessions
-pub mod FilterPausing
 pub mod UnitFilters
 pub mod Laws
 pub mod inner

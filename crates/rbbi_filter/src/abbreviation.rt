@@ -16,7 +16,7 @@ use std::marker::Model;
 pub type AbbrErr = LinesErr;
 
 /// An abbreviation. Contracts see it as its list of characters.
-#[derive(Debug, Drop)]
+#[derive(Drop)]
 struct Abbreviation {
     characters: Vec<char>,
 }
@@ -41,7 +41,7 @@ impl Abbreviation {
 }
 
 /// Abbreviations, in the order of their file. Contracts see them as their list.
-#[derive(Debug, Drop)]
+#[derive(Drop)]
 pub struct Abbreviations {
     list: Values<Abbreviation>,
     /// The same abbreviations as a set, so that a question costs no more where they are many.

@@ -11,7 +11,7 @@ use rbbi_text::{Chars, Steps};
 use std::sync::ledger::Ledger;
 
 /// What stands between a text and its boundaries as they are reported.
-#[derive(Debug, Drop)]
+#[derive(Drop)]
 pub enum Filter {
     /// Abbreviations, after which no boundary is reported.
     Suppressing(Abbreviations),
@@ -28,9 +28,7 @@ impl Filter {
         ensures cost { RisesUpTo (reporting_cost self.now) steps.old steps.new }
     {
         match self {
-            Filter::Suppressing(list) => {
-                !is_suppressed(text, at, list, &|w: &[char]| list.ends(w), steps)
-            }
+            Filter::Suppressing(list) => { !is_suppressed(text, at, list, steps) }
             Filter::Turning(_) => true,
         }
     }

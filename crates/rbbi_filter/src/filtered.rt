@@ -1,18 +1,17 @@
 //! A session that leaves out boundaries before which an abbreviation stands.
-ghost use Rattle.std.specs.Prelude.{◌≡◌, false};
 ghost use Rattle.rbbi_filter.specs.Closures.{AnswersEnds};
-ghost use Rattle.rbbi_filter.specs.Abbreviations.{is_suppressed};
-ghost use Rattle.rbbi_filter.specs.FilterPausing.{past, IsAskedPast};
 ghost use Rattle.rbbi_filter.specs.declared.filter.Filter.TheVariants.{Suppressing};
-ghost use Rattle.rbbi_filter.specs.FilterSessions.{FilterSession, HasTrueRuns, IsOpened};
+ghost use Rattle.rbbi_filter.specs.FilterSessions.{HasTrueRuns, IsOpened};
 
+use crate::lists::AnswersFor;
 use crate::moves::Moves;
 use crate::stretch::far_before;
 use crate::through::Through;
 use crate::window::is_suppressed;
-use crate::{Abbreviations, Predicate};
-use rbbi_session::Session;
-use rbbi_text::{EditErr, Steps, UnitText};
+use crate::{Abbreviations, Lists, Predicate};
+use rbbi_session::{Holds, Session, SessionBy};
+use rbbi_table::Table;
+use rbbi_text::{EditErr, EditText, Steps};
 use std::marker::Model;
 use std::sync::ledger::Ledger;
 
@@ -23,40 +22,51 @@ const ONE_BY_ONE: u32 = 256;
 /// A session that doesn't report a boundary within the text where a predicate is true of the
 /// characters before it, at most 64: that is where they end with an abbreviation of a list. Its
 /// answers are by the boundaries that are left.
-pub type Filtered<'a, T, P> = Through<Suppressed<'a, T, P>>;
+pub type Filtered<'a, T, P> = Through<Suppressed<&'a Table, T, AnswersFor<'a, P>>>;
 
 /// A session, and the abbreviations after which no boundary is reported.
 #[derive(Drop)]
-pub struct Suppressed<'a, T: UnitText, P: Predicate> {
+pub struct Suppressed<H: Holds, T: EditText, A: Lists> {
     /// Its cursor stands at a boundary that is reported.
-    session: Session<'a, T>,
-    /// The abbreviations that the predicate looks for.
-    list: &'a Abbreviations,
-    keep: P,
+    session: SessionBy<H, T>,
+    held: A,
 }
 
-impl<'a, T: UnitText, P: Predicate> Model for Suppressed<'a, T, P> {
+impl<H: Holds, T: EditText, A: Lists> Model for Suppressed<H, T, A> {
     ghost use Rattle.rbbi_filter.specs.FilterSessions.{FilterSession};
     ghost use Rattle.rbbi_filter.specs.declared.filter.Filter.TheVariants.{Suppressing};
+    ghost use Rattle.rbbi_filter.specs.inner.Windows.{IsAtKept};
 
     ghost Value = { FilterSession };
 
-    ghost use Rattle.rbbi_filter.specs.Closures.{AnswersEnds};
-    ghost use Rattle.rbbi_filter.specs.inner.Windows.{IsAtKept};
-
     ghost view = { λ suppressed. record {
-      filter = Suppressing suppressed.list.now;
+      filter = Suppressing (A.list_of suppressed.held);
       table = suppressed.session.table;
       state = suppressed.session.state;
       runs = suppressed.session.runs;
     } };
 
-    ghost invariant = { λ suppressed. IsAtKept suppressed.list.now suppressed.session.state
-        × AnswersEnds (P.can_ask suppressed.keep) (P.answers suppressed.keep)
-        suppressed.list.now };
+    ghost invariant = { λ suppressed.
+        IsAtKept (A.list_of suppressed.held) suppressed.session.state };
 }
 
-impl<'a, T: UnitText, P: Predicate> Through<Suppressed<'a, T, P>> {
+impl<H: Holds, T: EditText, A: Lists> Through<Suppressed<H, T, A>> {
+    /// The session through the abbreviations that are held, with the cursor at 0. It takes no
+    /// memory.
+    pub fn past(session: SessionBy<H, T>, held: A) -> Through<Suppressed<H, T, A>>
+        ensures opened { IsOpened (Suppressing (A.list_of held)) session.table
+            session.state.text result }
+        ensures are_true { HasTrueRuns result }
+    {
+        let mut session = session;
+        session.first();
+        Through {
+            moves: Suppressed { session, held },
+        }
+    }
+}
+
+impl<'a, T: EditText, P: Predicate> Through<Suppressed<&'a Table, T, AnswersFor<'a, P>>> {
     /// The session through these abbreviations, with the cursor at 0. `keep` answers for at most
     /// 64 characters before a boundary whether they end with one of them. It takes no memory.
     pub fn open(session: Session<'a, T>, list: &'a Abbreviations, keep: P) -> Filtered<'a, T, P>
@@ -65,49 +75,11 @@ impl<'a, T: UnitText, P: Predicate> Through<Suppressed<'a, T, P>> {
             session.entry.state.text result }
         ensures are_true { HasTrueRuns result }
     {
-        let mut session = session;
-        session.first();
-        Through {
-            moves: Suppressed {
-                session,
-                list,
-                keep,
-            },
-        }
+        Through::past(session, AnswersFor::new(list, keep))
     }
 }
 
-impl<'a, T: UnitText, P: Predicate + Drop> Through<Suppressed<'a, T, P>> {
-    /// Goes on with a session whose cursor stands at a boundary that is reported past these
-    /// abbreviations. It takes no memory.
-    pub fn resume(session: Session<'a, T>, list: &'a Abbreviations, keep: P) -> Filtered<'a, T, P>
-        requires at_kept { is_suppressed list.now session.state.text session.state.cursor ≡ false }
-        requires tells { AnswersEnds (P.can_ask keep) (P.answers keep) list.now }
-        ensures { result ≡ past list.now session.entry }
-    {
-        Through {
-            moves: Suppressed {
-                session,
-                list,
-                keep,
-            },
-        }
-    }
-
-    /// The session that is asked, at the same boundary. It takes no memory.
-    pub fn into_session(self) -> Session<'a, T>
-        ensures { IsAskedPast self.entry result }
-    {
-        let Suppressed {
-            session,
-            list: _,
-            keep: _,
-        } = self.moves;
-        session
-    }
-}
-
-impl<T: UnitText, P: Predicate> Moves for Suppressed<'_, T, P> {
+impl<H: Holds, T: EditText, A: Lists> Moves for Suppressed<H, T, A> {
     type Text = T;
 
     ghost session = { λ suppressed. suppressed };
@@ -137,7 +109,7 @@ impl<T: UnitText, P: Predicate> Moves for Suppressed<'_, T, P> {
     fn past<L: Ledger>(&mut self, o: u32, steps: &mut Steps<L>) -> u32 {
         let mut from = o;
         while let Some(at) = self.session.following(from, steps) {
-            if !is_suppressed(self.session.text(), at, self.list, &self.keep, steps) {
+            if !is_suppressed(self.session.text(), at, &self.held, steps) {
                 return at;
             }
             from = at;
@@ -149,13 +121,13 @@ impl<T: UnitText, P: Predicate> Moves for Suppressed<'_, T, P> {
         let mut from = o;
         let mut left = ONE_BY_ONE;
         while let Some(at) = self.session.preceding(from, steps) {
-            if !is_suppressed(self.session.text(), at, self.list, &self.keep, steps) {
+            if !is_suppressed(self.session.text(), at, &self.held, steps) {
                 return at;
             }
             from = at;
             left -= 1;
             if left == 0 {
-                return far_before(&mut self.session, self.list, &self.keep, from, steps);
+                return far_before(&mut self.session, &self.held, from, steps);
             }
         }
         from

@@ -7,7 +7,7 @@ ghost use Rattle.rbbi_filter.specs.FilterCosts.{forward_through, back_through, l
 ghost use Rattle.rbbi_filter.specs.FilterSessions.{boundaries_of, MovesTo, HasTrueRuns};
 ghost use Rattle.rbbi_filter.specs.FilterSessions.{EditAnswers, EditReads};
 
-use rbbi_text::{EditErr, Steps, UnitText};
+use rbbi_text::{Chars, EditErr, Steps};
 use std::sync::ledger::Ledger;
 
 /// How a session through a filter goes from boundary to boundary of those that are reported.
@@ -15,7 +15,7 @@ pub trait Moves {
     ghost use Rattle.rbbi_filter.specs.FilterSessions.{FilterSession};
 
     /// The text as it is.
-    type Text: UnitText;
+    type Text: Chars;
 
     /// What contracts see of the session.
     ghost session: { Self → FilterSession };

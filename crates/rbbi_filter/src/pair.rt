@@ -1,7 +1,7 @@
 //! Pairs of characters.
 
 /// A character, and the one that it is turned into.
-#[derive(Clone, Copy, Debug)]
+#[derive(Clone, Copy)]
 pub struct Pair {
     /// The character of the text.
     pub from: char,

@@ -1,18 +1,18 @@
 //! A session that looks for boundaries in a text whose characters are turned by a map.
 ghost use Rattle.std.specs.Prelude.{◌≡◌, IfOk, MatchResult};
-ghost use Rattle.rbbi_model.specs.Scripts.{opened};
 ghost use Rattle.rbbi_filter.specs.Closures.{Turns};
 ghost use Rattle.rbbi_filter.specs.declared.filter.Filter.TheVariants.{Turning};
 ghost use Rattle.rbbi_filter.specs.FilterSessions.{IsOpened};
-ghost use Rattle.rbbi_filter.specs.FilterPausing.{IsPausedTurned, IsTurnedOf, turning};
 
+use crate::maps::TurnsBy;
 use crate::moves::Moves;
+use crate::seen::Seen;
 use crate::through::Through;
-use crate::{CharMap, Mapped, Tailoring};
+use crate::{CharMap, Maps, Tailoring};
 use rbbi_cache::Cache;
-use rbbi_session::{Paused, character_count};
+use rbbi_session::{Holds, SessionBy, character_count};
 use rbbi_table::Table;
-use rbbi_text::{Chars, EditErr, Pieces, Steps, UnitText};
+use rbbi_text::{Chars, EditErr, EditText, Steps};
 use std::alloc::{AllocError, Global};
 use std::marker::Model;
 use std::sync::ledger::Ledger;
@@ -20,16 +20,14 @@ use std::sync::ledger::Ledger;
 /// A session that answers by the boundaries of its text as a map turns the characters: by that of
 /// some pairs. Each answer is the one that a scan of the mapped text gives, at the costs that
 /// `rbbi_session::Session` has over that text.
-pub type Tailored<'a, T, G> = Through<Turned<'a, T, G>>;
+pub type Tailored<'a, T, G> = Through<Turned<&'a Table, T, TurnsBy<'a, G>>>;
 
 /// A text as it is, and boundaries that were found in the text as it is turned.
 #[derive(Drop)]
-pub struct Turned<'a, T: UnitText, G: CharMap> {
-    table: &'a Table,
+pub struct Turned<H: Holds, T: EditText, M: Maps> {
+    table: H,
     text: T,
-    /// The pairs by which the map turns characters.
-    pairs: &'a Tailoring,
-    map: G,
+    held: M,
     /// Where the cursor is.
     at: u32,
     /// The number of the status list of the boundary at the cursor.
@@ -38,30 +36,81 @@ pub struct Turned<'a, T: UnitText, G: CharMap> {
     cache: Cache,
 }
 
-impl<'a, T: UnitText, G: CharMap> Model for Turned<'a, T, G> {
+impl<H: Holds, T: EditText, M: Maps> Model for Turned<H, T, M> {
     ghost use Rattle.rbbi_filter.specs.FilterSessions.{FilterSession};
     ghost use Rattle.rbbi_filter.specs.declared.filter.Filter.TheVariants.{Turning};
+    ghost use Rattle.rbbi_session.specs.Scans.{IsConsistent};
+    ghost use Rattle.rbbi_filter.specs.Pairs.{turned};
 
     ghost Value = { FilterSession };
 
-    ghost use Rattle.rbbi_session.specs.Scans.{IsConsistent};
-    ghost use Rattle.rbbi_filter.specs.Pairs.{turned};
-    ghost use Rattle.rbbi_filter.specs.Closures.{Turns};
-
     ghost view = { λ turning. record {
-      filter = Turning turning.pairs.now;
-      table = turning.table.now;
+      filter = Turning (M.pairs_of turning.held);
+      table = H.table_of turning.table;
       state = record { text = T.characters turning.text; cursor = turning.at };
       runs = turning.cache.runs;
     } };
 
-    ghost invariant = { λ turning. IsConsistent turning.table.now
-        (turned turning.pairs.now (T.characters turning.text))
-        turning.at turning.status turning.cache.runs turning.cache.slashes
-        × Turns (G.can_map turning.map) (G.maps turning.map) turning.pairs.now };
+    ghost invariant = { λ turning. IsConsistent (H.table_of turning.table)
+        (turned (M.pairs_of turning.held) (T.characters turning.text))
+        turning.at turning.status turning.cache.runs turning.cache.slashes };
 }
 
-impl<'a, T: UnitText + Drop, G: CharMap + Drop> Through<Turned<'a, T, G>> {
+impl<H: Holds + Drop, T: EditText + Drop, M: Maps + Drop> Through<Turned<H, T, M>> {
+    /// A session over a text through the pairs that are held, with the cursor at 0. After the
+    /// refusal the text is dropped.
+    pub fn by(
+        alloc: Global,
+        table: H,
+        text: T,
+        held: M,
+    ) -> Result<Through<Turned<H, T, M>>, AllocError>
+        ensures { IfOk result (λ session. IsOpened (Turning (M.pairs_of held))
+            (H.table_of table) (T.characters text) session) }
+    {
+        table.table().valid();
+        let cache = Cache::new(alloc, table.table())?;
+        Ok(Through {
+            moves: Turned {
+                table,
+                text,
+                held,
+                at: 0,
+                status: 0,
+                cache,
+            },
+        })
+    }
+
+    /// From a session to one through the pairs that are held, over the same text, with the cursor
+    /// at 0. After the refusal for memory the session is given back as it was.
+    pub fn of(
+        alloc: Global,
+        session: SessionBy<H, T>,
+        held: M,
+    ) -> Result<Through<Turned<H, T, M>>, SessionBy<H, T>>
+        ensures { MatchResult result (IsOpened (Turning (M.pairs_of held)) session.table
+            session.state.text) (λ former. former ≡ session) }
+    {
+        session.holder().table().valid();
+        let Ok(cache) = Cache::new(alloc, session.holder().table()) else {
+            return Err(session);
+        };
+        let (table, text) = session.into_parts();
+        Ok(Through {
+            moves: Turned {
+                table,
+                text,
+                held,
+                at: 0,
+                status: 0,
+                cache,
+            },
+        })
+    }
+}
+
+impl<'a, T: EditText + Drop, G: CharMap + Drop> Through<Turned<&'a Table, T, TurnsBy<'a, G>>> {
     /// A session over a text, with the cursor at 0. `map` turns characters as these pairs say.
     /// After the refusal the text is dropped.
     pub fn open(
@@ -75,131 +124,11 @@ impl<'a, T: UnitText + Drop, G: CharMap + Drop> Through<Turned<'a, T, G>> {
         ensures { IfOk result (λ session.
             IsOpened (Turning pairs.now) table.now (T.characters text) session) }
     {
-        table.valid();
-        let cache = Cache::new(alloc, table)?;
-        Ok(Through {
-            moves: Turned {
-                table,
-                text,
-                pairs,
-                map,
-                at: 0,
-                status: 0,
-                cache,
-            },
-        })
+        Through::by(alloc, table, text, TurnsBy::new(pairs, map))
     }
 }
 
-/// A session through pairs that has let go of its table and its pairs.
-#[derive(Drop)]
-pub struct PausedTailored {
-    text: Pieces,
-    at: u32,
-    status: u16,
-    cache: Cache,
-}
-
-impl Model for PausedTailored {
-    ghost use Rattle.rbbi_session.specs.Pausing.{Paused};
-
-    ghost Value = { Paused };
-
-    ghost view = { λ paused. record {
-      state = record { text = paused.text; cursor = paused.at };
-      list = paused.status;
-      runs = paused.cache.runs;
-      slashes = paused.cache.slashes;
-    } };
-}
-
-impl PausedTailored {
-    /// The text.
-    pub fn text(&self) -> &Pieces
-        ensures { result.now ≡ self.now.state.text }
-    {
-        &self.text
-    }
-
-    /// From a session by a table to one through pairs over the same text, with the cursor at 0.
-    /// After the refusal for memory the session is given back as it was.
-    pub(crate) fn open(
-        alloc: Global,
-        table: &Table,
-        paused: Paused<Pieces>,
-        pairs: &Tailoring,
-    ) -> Result<PausedTailored, Paused<Pieces>>
-        ensures { MatchResult result (λ turned. (turned.state ≡ opened paused.state.text)
-            × IsPausedTurned table.now pairs.now turned) (λ former. former ≡ paused) }
-    {
-        table.valid();
-        match Cache::new(alloc, table) {
-            Ok(cache) => Ok(PausedTailored {
-                text: paused.into_text(),
-                at: 0,
-                status: 0,
-                cache,
-            }),
-            Err(_) => Err(paused),
-        }
-    }
-}
-
-impl<'a, G: CharMap + Drop> Through<Turned<'a, Pieces, G>> {
-    /// Goes on with the table and the pairs that a session was paused by. `map` turns characters as
-    /// these pairs say. It takes no memory.
-    pub fn resume(
-        table: &'a Table,
-        paused: PausedTailored,
-        pairs: &'a Tailoring,
-        map: G,
-    ) -> Tailored<'a, Pieces, G>
-        requires fits { IsPausedTurned table.now pairs.now paused }
-        requires turns { Turns (G.can_map map) (G.maps map) pairs.now }
-        ensures { result ≡ turning table.now pairs.now paused }
-    {
-        let PausedTailored {
-            text,
-            at,
-            status,
-            cache,
-        } = paused;
-        Through {
-            moves: Turned {
-                table,
-                text,
-                pairs,
-                map,
-                at,
-                status,
-                cache,
-            },
-        }
-    }
-
-    /// Lets go of the table and the pairs. It takes no memory.
-    pub fn pause(self) -> PausedTailored
-        ensures { IsTurnedOf self.entry result }
-    {
-        let Turned {
-            table: _,
-            text,
-            pairs: _,
-            map: _,
-            at,
-            status,
-            cache,
-        } = self.moves;
-        PausedTailored {
-            text,
-            at,
-            status,
-            cache,
-        }
-    }
-}
-
-impl<T: UnitText, G: CharMap> Moves for Turned<'_, T, G> {
+impl<H: Holds, T: EditText, M: Maps> Moves for Turned<H, T, M> {
     type Text = T;
 
     ghost session = { λ turning. turning };
@@ -213,11 +142,11 @@ impl<T: UnitText, G: CharMap> Moves for Turned<'_, T, G> {
     }
 
     fn status_list(&self) -> &[u32] {
-        self.table.status_list(self.status)
+        self.table.table().status_list(self.status)
     }
 
     fn to_start(&mut self) {
-        self.table.valid();
+        self.table.table().valid();
         self.at = 0;
         self.status = 0;
     }
@@ -232,9 +161,10 @@ impl<T: UnitText, G: CharMap> Moves for Turned<'_, T, G> {
     }
 
     fn past<L: Ledger>(&mut self, o: u32, steps: &mut Steps<L>) -> u32 {
-        self.table.valid();
-        let text = Mapped::new(&self.text, self.pairs, &self.map);
-        let Some(entry) = self.cache.after(self.table, &text, o, steps) else {
+        let table = self.table.table();
+        table.valid();
+        let text = Seen::new(&self.text, &self.held);
+        let Some(entry) = self.cache.after(table, &text, o, steps) else {
             return self.at;
         };
         self.at = entry.at;
@@ -243,9 +173,10 @@ impl<T: UnitText, G: CharMap> Moves for Turned<'_, T, G> {
     }
 
     fn before<L: Ledger>(&mut self, o: u32, steps: &mut Steps<L>) -> u32 {
-        self.table.valid();
-        let text = Mapped::new(&self.text, self.pairs, &self.map);
-        let Some(entry) = self.cache.before(self.table, &text, o, steps) else {
+        let table = self.table.table();
+        table.valid();
+        let text = Seen::new(&self.text, &self.held);
+        let Some(entry) = self.cache.before(table, &text, o, steps) else {
             return self.at;
         };
         self.at = entry.at;
@@ -264,10 +195,10 @@ impl<T: UnitText, G: CharMap> Moves for Turned<'_, T, G> {
         let _short = self.text.len();
         self.text.replace(at, remove, insert)?;
         let inserted = character_count(insert);
-        let text = Mapped::new(&self.text, self.pairs, &self.map);
-        self.cache
-            .edited(self.table, &text, at, remove, inserted, steps);
-        self.table.valid();
+        let table = self.table.table();
+        table.valid();
+        let text = Seen::new(&self.text, &self.held);
+        self.cache.edited(table, &text, at, remove, inserted, steps);
         self.at = 0;
         self.status = 0;
         Ok(())

@@ -24,7 +24,7 @@ pub type TailorErr = LinesErr;
 
 /// Pairs of characters with distinct first ones, in the order of their file. Contracts see them as
 /// their list.
-#[derive(Debug, Drop)]
+#[derive(Drop)]
 pub struct Tailoring {
     pairs: Vec<Pair>,
     /// For each character up to the greatest that is turned, the one that it is turned into, if it
@@ -145,7 +145,7 @@ fn make_room(seconds: &mut Vec<Option<char>>, place: usize) -> Result<(), AllocE
 }
 
 /// A line that isn't skipped: its number, and the pair that it writes, if it is of that form.
-#[derive(Debug, Drop)]
+#[derive(Drop)]
 struct PairLine {
     number: u32,
     pair: Option<Pair>,

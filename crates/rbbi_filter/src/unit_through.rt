@@ -30,7 +30,10 @@ impl<M: Moves> Model for UnitThrough<M> {
     ghost view = { λ session. record { unit = session.unit; asked = session.asked } };
 }
 
-impl<M: Moves> UnitThrough<M> {
+impl<M: Moves> UnitThrough<M>
+where
+    M::Text: UnitText,
+{
     /// By a unit, from a session by characters. It takes no memory.
     pub fn new(asked: Through<M>, unit: Unit) -> UnitThrough<M>
         ensures { result ≡ record { unit = unit; asked = asked } }
@@ -38,12 +41,11 @@ impl<M: Moves> UnitThrough<M> {
         UnitThrough { asked, unit }
     }
 
-    /// The session by characters. It takes no memory.
-    pub fn into_asked(self) -> Through<M>
-        ensures { result ≡ self.asked }
+    /// The unit of places.
+    pub fn unit(&self) -> Unit
+        ensures { result ≡ self.now.unit }
     {
-        let UnitThrough { asked, unit: _ } = self;
-        asked
+        self.unit
     }
 
     /// The offset of the boundary at the cursor, where a place was found.
@@ -58,7 +60,10 @@ impl<M: Moves> UnitThrough<M> {
     }
 }
 
-impl<M: Moves> Walk for UnitThrough<M> {
+impl<M: Moves> Walk for UnitThrough<M>
+where
+    M::Text: UnitText,
+{
     ghost use Rattle.rbbi_filter.specs.UnitFilters.{UnitFilterSetting, unit_filter_view};
 
     type Text = M::Text;

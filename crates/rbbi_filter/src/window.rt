@@ -3,10 +3,9 @@ ghost use Rattle.std.specs.Prelude.{◌≡◌, ◌≤◌, length, drop};
 ghost use Rattle.rbbi_text.specs.Steps.{RisesUpTo};
 ghost use Rattle.rbbi_filter.specs.Abbreviations as spec;
 ghost use Rattle.rbbi_filter.specs.Abbreviations.{window_size};
-ghost use Rattle.rbbi_filter.specs.Closures.{AnswersEnds};
 ghost use Rattle.rbbi_filter.specs.inner.Windows.{IsEnough};
 
-use crate::{Abbreviations, Predicate};
+use crate::Lists;
 use rbbi_text::{Chars, Steps};
 use std::sync::ledger::Ledger;
 
@@ -44,24 +43,22 @@ fn read_before<T: Chars, L: Ledger>(
 }
 
 /// Whether a boundary isn't reported since an abbreviation stands before it: it is neither the
-/// text's start nor its end, and the predicate is true of the characters before it, at most 64.
-/// These are read at most once.
-pub(crate) fn is_suppressed<T: Chars, P: Predicate, L: Ledger>(
+/// text's start nor its end, and the characters before it, at most 64, end with one. These are read
+/// at most once.
+pub(crate) fn is_suppressed<T: Chars, A: Lists, L: Ledger>(
     text: &T,
     at: u32,
-    list: &Abbreviations,
-    keep: &P,
+    held: &A,
     steps: &mut Steps<L>,
 ) -> bool
-    requires within { at ≤ length (T.characters text.now) }
-    requires tells { AnswersEnds (P.can_ask keep.now) (P.answers keep.now) list.now }
-    ensures exact { result ≡ spec.is_suppressed list.now (T.characters text.now) at }
+    requires { at ≤ length (T.characters text.now) }
+    ensures exact { result ≡ spec.is_suppressed (A.list_of held.now) (T.characters text.now) at }
     ensures cost { RisesUpTo window_size steps.old steps.new }
 {
     if at == 0 || at == text.len() {
         return false;
     }
     let mut window = ['\0'; SIZE];
-    let first = read_before(text, at, list.longest(), &mut window, steps);
-    keep.holds(&window[first..])
+    let first = read_before(text, at, held.list().longest(), &mut window, steps);
+    held.ends(&window[first..])
 }

@@ -1,9 +1,10 @@
 -- What readers lost, over several reads, and what a read of all answers.
-use Rattle.std.proofs.Common.{◌≢◌, ◌≤◌, ◌+◌, ◌-◌, ℕ, List, ◌++◌, length, take, Option, Some, None, IfSome, Err}
-use Rattle.std.proofs.Common.{refl, sym, ◌∙◌, arith, length-append, length-take-le}
+use Rattle.std.proofs.Common.{◌≢◌, ◌≤◌, ◌+◌, ◌-◌, ℕ, List, ◌++◌, length, take, Option, Some, None, IfSome, IsSomeAnd, Err}
+use Rattle.std.proofs.Common.{refl, sym, ◌∙◌, arith, inr, length-append, length-take-le}
+use Rattle.std.specs.declared.io.Error.{Error}
 use Rattle.std.specs.Io.KnownBytes.{Consumes, Keeps}
 use Rattle.std.proofs.KnownBytes.{Consumes-trans}
-use Rattle.rbbi_io.specs.Answers.{AnswersRead}
+use Rattle.rbbi_io.specs.Answers.{AnswersRead, IsToldAs, KeepsFault}
 use Rattle.rbbi_io.specs.Readers.{TakesAtMost}
 use Rattle.rbbi_io.specs.declared.error.ReadErr.{ReadErr}
 use Rattle.rbbi_io.specs.declared.error.ReadErr.TheVariants as read
@@ -31,3 +32,18 @@ pub AnswersRead-refused : (before : Option (List ℕ)) (limit : ℕ) (refusal : 
 AnswersRead-refused None limit refusal other = tt
 AnswersRead-refused (Some held) limit read.TooLong other = absurd (other refl)
 AnswersRead-refused (Some held) limit refusal other = tt
+
+-- a fault of the system is no refusal for the length
+pub told_not_long : (fault : Option Error) (refusal : ReadErr) → IsSomeAnd fault (λ f. IsToldAs f refusal) → refusal ≢ read.TooLong
+told_not_long None refusal told e = told
+told_not_long (Some fault) read.Failed told e = cc
+told_not_long (Some fault) read.TooLong told e = told
+told_not_long (Some fault) read.Memory told e = cc
+
+-- the fault that a read was refused for is kept
+pub KeepsFault-refused : (before now : Option Error) (refusal : ReadErr) → IsSomeAnd now (λ f. IsToldAs f refusal) →
+    KeepsFault before (Err refusal) now
+KeepsFault-refused before now read.Failed told = told
+KeepsFault-refused before None read.TooLong told = absurd told
+KeepsFault-refused before (Some fault) read.TooLong told = absurd told
+KeepsFault-refused before now read.Memory told = inr told

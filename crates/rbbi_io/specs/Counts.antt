@@ -1,5 +1,6 @@
 -- Counts of faults, which rise and never fall.
-use Rattle.std.specs.Prelude.{◌≡◌, ◌<◌, ◌≤◌, ◌⊎◌, ◌≢◌, ℕ, List, ◌+◌, min}
+use Rattle.std.specs.Prelude.{◌≡◌, ◌<◌, ◌≤◌, ◌⊎◌, ◌≢◌, ℕ, List, ◌+◌, min, Option}
+use Rattle.std.specs.declared.io.Error.{Error}
 
 -- the number at which a count stops
 abbrev pub greatest_count : ℕ
@@ -33,8 +34,11 @@ EachStays before now = (name : List ℕ) → now name ≡ before name
 abbrev pub OthersStay : List ℕ → (List ℕ → ℕ) → (List ℕ → ℕ) → Type 0
 OthersStay name before now = (other : List ℕ) → other ≢ name → now other ≡ before other
 
--- how many reads and how many writes failed, of all names together, and how many writes were done
+-- how many calls there were of all names together, how many reads and how many writes of them failed, how many writes were done, and why
+-- the last read was refused, if the system said that
 pub record CallCounts : Type 0 where
+  pub calls : ℕ
   pub reads : ℕ
   pub writes : ℕ
   pub written : ℕ
+  pub fault : Option Error

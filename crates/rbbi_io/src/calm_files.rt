@@ -15,7 +15,7 @@ use std::marker::Model;
 /// so they refuse only `TooLong` and `Memory`.
 ///
 /// A name that nobody added or wrote holds no bytes. Reads and writes are counted together, from 1.
-#[derive(Debug, Drop)]
+#[derive(Drop)]
 pub struct CalmFiles {
     alloc: Global,
     files: Vec<MemFile>,

@@ -8,7 +8,7 @@ use std::marker::Model;
 
 /// A sink in memory that never fails. It tells what it took, takes each piece whole, and its count
 /// of faults is always 0, so it refuses only `Memory`. Puts are counted from 1.
-#[derive(Debug, Drop)]
+#[derive(Drop)]
 pub struct CalmSink {
     bytes: Vec<u8>,
     calls: u64,

@@ -9,6 +9,7 @@ ghost use Rattle.rbbi_io.specs.declared.error.WriteErr.{WriteErr};
 use crate::{ReadErr, WriteErr};
 use rbbi_text::Raw;
 use std::alloc::Global;
+use std::io;
 
 /// Files by their names. Contracts see what each name holds, where the files tell that, and for
 /// each name how many reads and how many writes of it failed. Names and contents are lists of
@@ -53,6 +54,11 @@ pub trait Files {
             (OthersStay name.now (failed_reads self.old) (failed_reads self.new)) }
         ensures calm { ¬ IsErrOf result ReadErr.Failed
             → EachStays (failed_reads self.old) (failed_reads self.new) };
+
+    /// Why the last read was refused, in the system's words, if that is known.
+    fn read_fault(&self) -> Option<io::Error> {
+        None
+    }
 
     /// Makes the name hold these bytes. Every other name holds what it held.
     ///

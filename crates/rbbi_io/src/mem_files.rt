@@ -11,14 +11,16 @@ use crate::named_files::{MemFile, find, store};
 use crate::{Files, ReadErr, WriteErr};
 use rbbi_text::Raw;
 use std::alloc::{AllocError, Global};
+use std::io;
 use std::marker::Model;
 
 /// Files in memory. They tell what they hold.
 ///
 /// Reads and writes are counted together, from 1. A call whose number was given to `fail_at` fails,
 /// and so does a read of a name that is not there. The names of failed reads and of failed writes
-/// are kept; a failing call that finds no room for its name answers `Memory`.
-#[derive(Debug, Drop)]
+/// are kept; a failing call that finds no room for its name answers `Memory`. Of a name that is
+/// not there they say what the system says, and of `.` that it is a folder.
+#[derive(Drop)]
 pub struct MemFiles {
     alloc: Global,
     files: Vec<MemFile>,
@@ -26,6 +28,7 @@ pub struct MemFiles {
     failing: Vec<u64>,
     failed_reads: Vec<Raw>,
     failed_writes: Vec<Raw>,
+    fault: Option<io::Error>,
 }
 
 impl Model for MemFiles {
@@ -55,6 +58,7 @@ impl MemFiles {
             failing: Vec::new(alloc),
             failed_reads: Vec::new(alloc),
             failed_writes: Vec::new(alloc),
+            fault: None,
         }
     }
 
@@ -97,6 +101,7 @@ impl MemFiles {
         ensures counted { self.new ≡ called self.old }
         ensures fails { IsTrue result ↔ IsToFail self.old.failing self.old.calls }
     {
+        self.fault = None;
         self.calls = self.calls.saturating_add(1);
         self.failing.contains(&self.calls)
     }
@@ -111,6 +116,7 @@ impl MemFiles {
         }
         let Some(bytes) = self.get(name) else {
             keep(self.alloc, &mut self.failed_reads, name)?;
+            self.fault = Some(absent(name));
             return Err(ReadErr::Failed);
         };
         if bytes.len() as u64 > limit {
@@ -130,6 +136,16 @@ impl MemFiles {
         self.add(name, bytes)?;
         Ok(())
     }
+}
+
+/// The numbers by which the system says that a name is not there, and that it is a folder.
+const NOT_THERE: i32 = 2;
+
+const IS_FOLDER: i32 = 21;
+
+/// What the system says of a name that holds nothing.
+fn absent(name: &str) -> io::Error {
+    io::Error::from_raw_os_error(if name == "." { IS_FOLDER } else { NOT_THERE })
 }
 
 /// Adds a name to those of failed calls.
@@ -171,6 +187,10 @@ impl Files for MemFiles {
             → EachStays (reads_failed self.old) (reads_failed self.new) }
     {
         self.read_whole(alloc, name, limit)
+    }
+
+    fn read_fault(&self) -> Option<io::Error> {
+        self.fault
     }
 
     fn write(&mut self, name: &str, bytes: &[u8]) -> Result<(), WriteErr>

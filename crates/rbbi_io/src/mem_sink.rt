@@ -12,7 +12,7 @@ use std::marker::Model;
 /// `at_most` allows.
 ///
 /// Puts are counted from 1. A put whose number was given to `fail_at` fails and takes nothing.
-#[derive(Debug, Drop)]
+#[derive(Drop)]
 pub struct MemSink {
     bytes: Vec<u8>,
     calls: u64,

@@ -7,7 +7,7 @@ use std::alloc::{AllocError, Global};
 use std::marker::Model;
 
 /// One file in memory. Contracts see its name and its bytes.
-#[derive(Debug, Drop)]
+#[derive(Drop)]
 pub(crate) struct MemFile {
     name: String,
     bytes: Vec<u8>,

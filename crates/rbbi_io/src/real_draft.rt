@@ -1,6 +1,9 @@
 //! The files of the system, written by way of a draft: an edge over std's files.
-ghost use Rattle.std.specs.Prelude.{◌≡◌, OnOk};
+ghost use Rattle.std.specs.Prelude.{◌≡◌, OnOk, IfOk, IfErr, IfSome, IsTrue};
+ghost use Rattle.std.specs.Fs.{file_type, IsSymlink};
+ghost use Rattle.std.specs.Path.{path_bytes, path_buf_bytes};
 ghost use Rattle.std.specs.Io.KnownBytes.{Appends};
+ghost use Rattle.rbbi_io.specs.inner.Drafts.{IsOfProcess, ForbidsDraft, ForbidsRename, IsReason};
 
 use crate::WriteErr;
 use crate::draft::{Target, refused_write, replace};
@@ -18,7 +21,7 @@ const MOST_LINKS: u64 = 40;
 /// that is there, if one is.
 #[derive(Drop)]
 struct Replaced<A: Allocator> {
-    path: String<A>,
+    path: PathBuf<A>,
     old: Option<Metadata>,
 }
 
@@ -30,33 +33,65 @@ struct Draft<R: Files + Alloc> {
     replaced: Replaced<R::A>,
 }
 
+/// Why a name is written in place, as the system said it.
+#[derive(Drop)]
+enum Fixed<A: Allocator> {
+    /// What has the name is neither a regular file nor a link.
+    Special(Metadata),
+    /// The link with this path leads to what a process has open, as `/dev/stdout` does.
+    Open(PathBuf<A>),
+    /// The folder takes no draft.
+    NoDraft(io::Error),
+    /// The name can't be given to the draft.
+    NotRenamed(io::Error),
+}
+
 /// A name of the system, with its draft once that is made. It does not tell what the two hold.
 #[derive(Drop)]
 struct RealTarget<'a, R: Files + Alloc> {
     rt: &'a R,
     name: &'a str,
     draft: Option<Draft<R>>,
+    /// The device said that it has all that was written into the draft.
+    is_synced: bool,
+    /// Why the name is written in place, once that is known.
+    fixed: Option<Fixed<R::A>>,
+}
+
+impl<R: Files + Alloc> RealTarget<'_, R> {
+    /// Removes the draft, if there is one.
+    fn remove_draft(&self) {
+        if let Some(draft) = &self.draft {
+            let _ = fs::remove_file(self.rt, draft.path.as_path());
+        }
+    }
 }
 
 impl<'a, R: Files + Alloc> Target for RealTarget<'a, R> {
-    ghost use Rattle.std.specs.Prelude.{None};
+    ghost use Rattle.std.specs.Prelude.{◌≡◌, None, IsSomeAnd, true};
+    ghost use Rattle.rbbi_io.specs.inner.Drafts.{IsReason};
 
     ghost drafted = { λ _. None };
 
     ghost held = { λ _. None };
 
-    ghost is_synced = { λ _. Unit {0} };
+    ghost is_synced = { λ target. target.is_synced ≡ true };
 
-    ghost is_fixed = { λ _. Unit {0} };
+    ghost is_fixed = { λ target. IsSomeAnd target.fixed IsReason };
 
     fn make_draft(&mut self) -> io::Result<bool> {
-        if let Some(replaced) = replaced_by(self.rt, self.name)? {
-            self.draft = draft_of(self.rt, replaced)?;
+        match draft_of(self.rt, self.name)? {
+            Ok(draft) => self.draft = Some(draft),
+            Err(fixed) => {
+                self.fixed = Some(fixed);
+                return Ok(false);
+            }
         }
-        Ok(self.draft.is_some())
+        Ok(true)
     }
 
     fn write(&mut self, bytes: &[u8]) -> io::Result<()> {
+        self.is_synced = false;
         match &mut self.draft {
             Some(draft) => {
                 take_over(self.rt, draft)?;
@@ -67,34 +102,34 @@ impl<'a, R: Files + Alloc> Target for RealTarget<'a, R> {
     }
 
     fn sync(&mut self) -> io::Result<()> {
-        match &self.draft {
+        let outcome = match &self.draft {
             Some(draft) => draft.file.sync_all(),
             None => Err(no_draft()),
-        }
+        };
+        self.is_synced = outcome.is_ok();
+        outcome
     }
 
     fn rename(&mut self) -> io::Result<bool> {
         let Some(draft) = &self.draft else {
             return Err(no_draft());
         };
-        match fs::rename(self.rt, draft.path.as_path(), draft.replaced.path.as_str()) {
+        match fs::rename(self.rt, draft.path.as_path(), draft.replaced.path.as_path()) {
             Ok(()) => Ok(true),
-            Err(fault) => match fault.kind() {
-                ErrorKind::PermissionDenied | ErrorKind::ResourceBusy | ErrorKind::CrossesDevices =>
-                    Ok(false),
-                _ => Err(fault),
-            },
+            Err(fault) if forbids_rename(&fault) => {
+                self.fixed = Some(Fixed::NotRenamed(fault));
+                Ok(false)
+            }
+            Err(fault) => Err(fault),
         }
     }
 
     fn remove(&mut self) {
-        if let Some(draft) = &self.draft {
-            let _ = fs::remove_file(self.rt, draft.path.as_path());
-        }
+        self.remove_draft();
     }
 
     fn overwrite(&mut self, bytes: &[u8]) -> Result<(), WriteErr> {
-        self.remove();
+        self.remove_draft();
         write_in_place(self.rt, self.name, bytes)
     }
 }
@@ -117,95 +152,149 @@ fn take_over<R: Files + Alloc>(rt: &R, draft: &Draft<R>) -> io::Result<()> {
     draft.file.set_permissions(old.permissions())
 }
 
-/// A regular file, as it is to be replaced. Refused where it may not be written.
-fn regular<R: Files + Alloc>(
+/// Whether the system makes no draft in a folder, where it says this.
+fn forbids_draft(fault: &io::Error) -> bool
+    ensures { IsTrue result → ForbidsDraft fault.now }
+{
+    let kind = fault.kind();
+    kind == ErrorKind::PermissionDenied || kind == ErrorKind::ReadOnlyFilesystem
+}
+
+/// Whether the system gives a name to no other file, where it says this.
+fn forbids_rename(fault: &io::Error) -> bool
+    ensures { IsTrue result → ForbidsRename fault.now }
+{
+    let kind = fault.kind();
+    kind == ErrorKind::PermissionDenied
+        || kind == ErrorKind::ResourceBusy
+        || kind == ErrorKind::CrossesDevices
+}
+
+/// Whether a link of this path leads to what a process has open.
+fn is_of_process(path: Path<'_>) -> bool
+    ensures { IsTrue result → IsOfProcess (path_bytes path.entry) }
+{
+    path.starts_with("/proc") || path.starts_with("/dev/fd")
+}
+
+/// What the system says of a path itself, or nothing where nothing has it.
+fn metadata_of<R: Files>(rt: &R, path: Path<'_>) -> io::Result<Option<Metadata>> {
+    match fs::symlink_metadata(rt, path) {
+        Ok(found) => Ok(Some(found)),
+        Err(fault) if fault.kind() == ErrorKind::NotFound => Ok(None),
+        Err(fault) => Err(fault),
+    }
+}
+
+/// Whether this is a link that is followed.
+fn is_followed(path: Path<'_>, found: &Option<Metadata>) -> bool
+    ensures { ¬ IsTrue result → IfSome found.now (λ found. IsSymlink (file_type found)
+        → IsOfProcess (path_bytes path.entry)) }
+{
+    match found {
+        Some(found) => found.is_symlink() && !is_of_process(path),
+        None => false,
+    }
+}
+
+/// The end of the links from a name, with what the system says of that path. Only a link to what a
+/// process has open is not followed.
+fn follow<R: Files + Alloc>(rt: &R, name: &str) -> io::Result<(PathBuf<R::A>, Option<Metadata>)>
+    ensures { IfOk result (λ end. IfSome end.1 (λ found. IsSymlink (file_type found)
+        → IsOfProcess (path_buf_bytes end.0))) }
+{
+    let mut path = PathBuf::from_str(rt.alloc(), name)?;
+    for _ in 0..MOST_LINKS {
+        let found = metadata_of(rt, path.as_path())?;
+        if !is_followed(path.as_path(), &found) {
+            return Ok((path, found));
+        }
+        let next = fs::read_link(rt, path.as_path())?;
+        path = path
+            .as_path()
+            .with_file_name(rt.alloc(), next.as_path().as_str())?;
+    }
+    Err(io::Error::from(ErrorKind::FilesystemLoop))
+}
+
+/// What a draft is to replace that takes the path of what is there, or why that is written in place.
+/// Refused where a regular file may not be written.
+fn judged<R: Files + Alloc>(
     rt: &R,
-    path: String<R::A>,
+    path: PathBuf<R::A>,
     old: Metadata,
-) -> io::Result<Option<Replaced<R::A>>> {
-    OpenOptions::new().write(true).open(rt, path.as_str())?;
-    Ok(Some(Replaced {
+) -> io::Result<Result<Replaced<R::A>, Fixed<R::A>>>
+    requires { IsSymlink (file_type old) → IsOfProcess (path_buf_bytes path) }
+    ensures { IfOk result (λ told. IfErr told IsReason) }
+{
+    if old.is_symlink() {
+        return Ok(Err(Fixed::Open(path)));
+    }
+    if !old.is_file() {
+        return Ok(Err(Fixed::Special(old)));
+    }
+    OpenOptions::new().write(true).open(rt, path.as_path())?;
+    Ok(Ok(Replaced {
         path,
         old: Some(old),
     }))
 }
 
-/// Whether a link leads to one of the system's links to what a process has open, as `/dev/stdout`.
-fn leads_to_open_file<R: Files + Alloc>(rt: &R, link: &str) -> io::Result<bool> {
-    let mut path = PathBuf::from_str(rt.alloc(), link)?;
-    for _ in 0..MOST_LINKS {
-        let here = path.as_path();
-        if here.starts_with("/proc") || here.starts_with("/dev/fd") {
-            return Ok(true);
-        }
-        match fs::read_link(rt, here) {
-            Ok(next) => path = here.with_file_name(rt.alloc(), next.as_path().as_str())?,
-            Err(fault) if fault.kind() == ErrorKind::OutOfMemory => return Err(fault),
-            Err(_) => return Ok(false),
-        }
-    }
-    Ok(false)
-}
-
-/// The file to which a link leads. Nothing where that is no regular file, or something that a
-/// process has open.
-fn replaced_behind<R: Files + Alloc>(rt: &R, link: &str) -> io::Result<Option<Replaced<R::A>>> {
-    if leads_to_open_file(rt, link)? {
-        return Ok(None);
-    }
-    let path = match fs::canonicalize(rt, link) {
-        Ok(path) => path.into_string(),
-        Err(fault) if fault.kind() == ErrorKind::OutOfMemory => return Err(fault),
-        Err(_) => return Ok(None),
-    };
-    let old = fs::metadata(rt, path.as_str())?;
-    if old.is_file() {
-        regular(rt, path, old)
-    } else {
-        Ok(None)
-    }
-}
-
-/// The regular file of this name, or if nothing has the name so far, that name. Nothing where
-/// something else has it, as a device, a pipe or a link that leads to nothing.
-fn replaced_by<R: Files + Alloc>(rt: &R, name: &str) -> io::Result<Option<Replaced<R::A>>> {
-    match fs::symlink_metadata(rt, name) {
-        Ok(old) if old.is_file() => {
-            let path = String::from_str(rt.alloc(), name)?;
-            regular(rt, path, old)
-        }
-        Ok(old) if old.is_symlink() => replaced_behind(rt, name),
-        Err(fault) if fault.kind() == ErrorKind::NotFound => Ok(Some(Replaced {
-            path: String::from_str(rt.alloc(), name)?,
-            old: None,
-        })),
-        _ => Ok(None),
+/// What a draft of this name is to replace: the regular file to which it leads, or if nothing is
+/// there, that path. Otherwise why it is written in place. Refused also where the system doesn't say
+/// what is there.
+fn replaced_by<R: Files + Alloc>(
+    rt: &R,
+    name: &str,
+) -> io::Result<Result<Replaced<R::A>, Fixed<R::A>>>
+    ensures { IfOk result (λ told. IfErr told IsReason) }
+{
+    let (path, found) = follow(rt, name)?;
+    match found {
+        Some(old) => judged(rt, path, old),
+        None => Ok(Ok(Replaced { path, old: None })),
     }
 }
 
 /// A new, empty file in the folder of the one that it is to replace. Its name is `.rbbi-` with the
 /// first number that no file there has, and it is made only if it isn't there, so no two runs have
-/// one draft. Nothing where the folder forbids new files.
-fn draft_of<R: Files + Alloc>(rt: &R, replaced: Replaced<R::A>) -> io::Result<Option<Draft<R>>> {
+/// one draft. Where the folder forbids new files, why the old one is written in place.
+fn draft_for<R: Files + Alloc>(
+    rt: &R,
+    replaced: Replaced<R::A>,
+) -> io::Result<Result<Draft<R>, Fixed<R::A>>>
+    ensures { IfOk result (λ told. IfErr told IsReason) }
+{
     for number in 0..u64::MAX {
         let name = format!(in rt.alloc(); ".rbbi-{number}")?;
-        let path = Path::new(replaced.path.as_str()).with_file_name(rt.alloc(), name.as_str())?;
+        let path = replaced
+            .path
+            .as_path()
+            .with_file_name(rt.alloc(), name.as_str())?;
         match File::create_new(rt, path.as_path()) {
             Ok(file) => {
-                return Ok(Some(Draft {
+                return Ok(Ok(Draft {
                     file,
                     path,
                     replaced,
                 }));
             }
-            Err(fault) => match fault.kind() {
-                ErrorKind::AlreadyExists => {}
-                ErrorKind::PermissionDenied | ErrorKind::ReadOnlyFilesystem => return Ok(None),
-                _ => return Err(fault),
-            },
+            Err(fault) if fault.kind() == ErrorKind::AlreadyExists => {}
+            Err(fault) if forbids_draft(&fault) => return Ok(Err(Fixed::NoDraft(fault))),
+            Err(fault) => return Err(fault),
         }
     }
-    Ok(None)
+    Err(io::Error::from(ErrorKind::AlreadyExists))
+}
+
+/// An empty draft of what this name leads to, or why that is written in place.
+fn draft_of<R: Files + Alloc>(rt: &R, name: &str) -> io::Result<Result<Draft<R>, Fixed<R::A>>>
+    ensures { IfOk result (λ told. IfErr told IsReason) }
+{
+    match replaced_by(rt, name)? {
+        Ok(replaced) => draft_for(rt, replaced),
+        Err(fixed) => Ok(Err(fixed)),
+    }
 }
 
 /// Writes these bytes into a file that is open. Whatever goes wrong is a fault, since the file may
@@ -228,10 +317,23 @@ fn emptied<R: Files>(rt: &R, name: &str) -> io::Result<R::File> {
     }
 }
 
-/// Makes what has this name hold these bytes, without a draft.
+/// Hands what a file holds to the device. A pipe and a terminal have none, and the system says that
+/// the call isn't for them.
+fn sync_to_device<F: OpenFile>(file: &F) -> Result<(), WriteErr> {
+    match file.sync_all() {
+        Err(fault) if fault.kind() != ErrorKind::InvalidInput => Err(WriteErr::Failed),
+        _ => Ok(()),
+    }
+}
+
+/// Makes what has this name hold these bytes, without a draft. What the system says when the file
+/// is closed is not known here; the device has the bytes by then.
 fn write_in_place<R: Files>(rt: &R, name: &str, bytes: &[u8]) -> Result<(), WriteErr> {
     match emptied(rt, name) {
-        Ok(mut file) => write_to(&mut file, bytes),
+        Ok(mut file) => {
+            write_to(&mut file, bytes)?;
+            sync_to_device(&file)
+        }
         Err(fault) => Err(refused_write(&fault)),
     }
 }
@@ -248,6 +350,8 @@ pub(crate) fn write_file<R: Files + Alloc>(
         rt,
         name,
         draft: None,
+        is_synced: false,
+        fixed: None,
     };
     replace(&mut target, bytes)
 }

@@ -1,8 +1,8 @@
 //! The files of the system: an edge over std's files, where it is trusted that they are opened.
-ghost use Rattle.std.specs.Prelude.{◌≡◌, ◌≢◌, ◌<◌, ◌≤◌, ◌+◌, length, take, IfOk, IfSome};
-ghost use Rattle.std.specs.Prelude.{IfErr, MatchResult};
+ghost use Rattle.std.specs.Prelude.{◌≡◌, ◌≢◌, ◌<◌, ◌≤◌, ◌+◌, length, take, IfOk, IfSome, Some};
+ghost use Rattle.std.specs.Prelude.{IfErr, MatchResult, None, OnOk, IsSomeAnd};
 ghost use Rattle.std.specs.Io.KnownBytes.{Consumes, IsAtEnd, Keeps};
-ghost use Rattle.rbbi_io.specs.Answers.{AnswersRead};
+ghost use Rattle.rbbi_io.specs.Answers.{AnswersRead, IsToldAs, KeepsFault};
 ghost use Rattle.rbbi_io.specs.Readers.{TakesAtMost};
 
 use crate::real_draft::write_file;
@@ -17,15 +17,18 @@ use std::marker::Model;
 /// How many bytes are asked for at once, at most.
 const BLOCK: usize = 262_144;
 
-/// The files of the system. They do not tell what they hold, and keep one count for the failed
-/// reads of all names, one for the failed writes, and one for the writes that were done. Contracts
-/// see these three counts.
+/// The files of the system. They do not tell what they hold, and keep four counts, each of all
+/// names together: of the calls, the failed reads, the failed writes, and the writes that were
+/// done. They keep the fault that the last read was refused for. Contracts see the counts and the
+/// fault.
 #[derive(Drop)]
 pub struct RealFiles<'a, R> {
     rt: &'a R,
+    calls: u64,
     failed_reads: u64,
     failed_writes: u64,
     written: u64,
+    fault: Option<io::Error>,
 }
 
 impl<'a, R> Model for RealFiles<'a, R> {
@@ -34,22 +37,28 @@ impl<'a, R> Model for RealFiles<'a, R> {
     ghost Value = { CallCounts };
 
     ghost view = { λ files. record {
+      calls = files.calls;
       reads = files.failed_reads;
       writes = files.failed_writes;
       written = files.written;
+      fault = files.fault;
     } };
 }
 
 impl<'a, R: std::rt::Files> RealFiles<'a, R> {
+    ghost use Rattle.rbbi_io.specs.Answers.{TriesRead};
+
     /// The files of this runtime, with no call so far.
     pub fn new(rt: &'a R) -> RealFiles<'a, R>
-        ensures { result ≡ record { reads = 0; writes = 0; written = 0 } }
+        ensures { result ≡ record { calls = 0; reads = 0; writes = 0; written = 0; fault = None } }
     {
         RealFiles {
             rt,
+            calls: 0,
             failed_reads: 0,
             failed_writes: 0,
             written: 0,
+            fault: None,
         }
     }
 
@@ -66,6 +75,20 @@ impl<'a, R: std::rt::Files> RealFiles<'a, R> {
     {
         self.written
     }
+
+    /// One try to read the file of this name. It is counted, and the fault that it is refused for
+    /// is kept.
+    fn try_read(&mut self, alloc: Global, name: &str, limit: u64) -> Result<Raw, ReadErr>
+        ensures within { IfOk result (λ bytes. length bytes ≤ limit) }
+        ensures left { TriesRead self.old result self.new }
+    {
+        self.calls = self.calls.saturating_add(1);
+        self.fault = None;
+        match File::open(self.rt, name) {
+            Ok(mut file) => read_at_most(alloc, &mut file, limit, &mut self.fault),
+            Err(fault) => Err(refused_read(fault, &mut self.fault)),
+        }
+    }
 }
 
 /// This many zeros.
@@ -76,8 +99,14 @@ fn zeros(alloc: Global, count: usize) -> Result<Vec<u8>, AllocError>
 }
 
 /// Reads into the start of the block, at most one byte more than `left`. It answers how many bytes
-/// there were, and 0 at the end of the file. It never refuses `TooLong`.
-fn read_some<F: Read>(file: &mut F, block: &mut [u8], left: u64) -> Result<usize, ReadErr>
+/// there were, and 0 at the end of the file. It never refuses `TooLong`, and keeps the fault that it
+/// refuses for.
+fn read_some<F: Read>(
+    file: &mut F,
+    block: &mut [u8],
+    left: u64,
+    fault: &mut Option<io::Error>,
+) -> Result<usize, ReadErr>
     requires { 0 < length block.old }
     ensures within { IfOk result (λ count. count ≤ length block.new) }
     ensures most { IfOk result (λ count. count ≤ left + 1) }
@@ -85,20 +114,21 @@ fn read_some<F: Read>(file: &mut F, block: &mut [u8], left: u64) -> Result<usize
         (λ count. Consumes (F.remaining file.old) (F.remaining file.new) (take count block.new))
         (λ _. Keeps (F.remaining file.old) (F.remaining file.new)) }
     ensures end { IfOk result (λ count. count ≡ 0 → IsAtEnd (F.remaining file.new)) }
-    ensures refused { IfErr result (λ refusal. refusal ≢ ReadErr.TooLong) }
+    ensures told { IfErr result (λ refusal. IsSomeAnd fault.new (λ f. IsToldAs f refusal)) }
+    ensures calm { OnOk result (fault.new ≡ fault.old) }
 {
     let wanted = left.min(block.len() as u64 - 1) as usize + 1;
     for _turn in 0..u64::MAX {
         match file.read(&mut block[..wanted]) {
             Ok(count) => return Ok(count),
-            Err(fault) => {
-                if fault.kind() != ErrorKind::Interrupted {
-                    return Err(refused_read(&fault));
+            Err(found) => {
+                if found.kind() != ErrorKind::Interrupted {
+                    return Err(refused_read(found, fault));
                 }
             }
         }
     }
-    Err(ReadErr::Failed)
+    Err(refused_read(io::Error::from(ErrorKind::Interrupted), fault))
 }
 
 /// All bytes that a reader still has, at most `limit`. It takes at most one byte more than `limit`,
@@ -107,16 +137,24 @@ fn read_some<F: Read>(file: &mut F, block: &mut [u8], left: u64) -> Result<usize
 /// Refuses `TooLong` only where the reader had more than `limit` bytes, and is `Ok` only where it
 /// had no more. Contracts see the bytes of readers that tell them. The files of the system do not,
 /// and are read by this function alone.
-pub fn read_at_most<F: Read>(alloc: Global, reader: &mut F, limit: u64) -> Result<Raw, ReadErr>
+///
+/// The fault that it refuses `Failed` for is kept in `fault`, and so is one that is lack of memory.
+pub fn read_at_most<F: Read>(
+    alloc: Global,
+    reader: &mut F,
+    limit: u64,
+    fault: &mut Option<io::Error>,
+) -> Result<Raw, ReadErr>
     ensures within { IfOk result (λ bytes. length bytes ≤ limit) }
     ensures answer { IfSome (F.remaining reader.old) (λ held. AnswersRead held limit result) }
     ensures most { TakesAtMost (F.remaining reader.old) (F.remaining reader.new) (limit + 1) }
+    ensures kept { KeepsFault fault.old result fault.new }
 {
     let mut block = zeros(alloc, BLOCK)?;
     let mut bytes = Vec::new(alloc);
     for _turn in 0..u64::MAX {
         let left = limit - bytes.len() as u64;
-        let count = read_some(reader, block.as_mut_slice(), left)?;
+        let count = read_some(reader, block.as_mut_slice(), left, fault)?;
         if count == 0 {
             return Ok(Raw::new(bytes));
         }
@@ -125,32 +163,31 @@ pub fn read_at_most<F: Read>(alloc: Global, reader: &mut F, limit: u64) -> Resul
         }
         bytes.extend_from_slice(&block[..count])?;
     }
-    Err(ReadErr::Failed)
+    Err(refused_read(io::Error::from(ErrorKind::Interrupted), fault))
 }
 
-/// The bytes of the file of this name, at most `limit`.
-fn read_file<R: std::rt::Files>(
-    alloc: Global,
-    rt: &R,
-    name: &str,
-    limit: u64,
-) -> Result<Raw, ReadErr>
-    ensures { IfOk result (λ bytes. length bytes ≤ limit) }
+/// `Memory` if memory ran out, and otherwise `Failed`; never `TooLong`. The fault is kept.
+fn refused_read(found: io::Error, fault: &mut Option<io::Error>) -> ReadErr
+    ensures told { IsToldAs found result }
+    ensures kept { fault.new ≡ Some found }
 {
-    match File::open(rt, name) {
-        Ok(mut file) => read_at_most(alloc, &mut file, limit),
-        Err(fault) => Err(refused_read(&fault)),
-    }
-}
-
-/// `Memory` if memory ran out, and otherwise a fault; never `TooLong`.
-fn refused_read(fault: &io::Error) -> ReadErr
-    ensures { result ≢ ReadErr.TooLong }
-{
-    if fault.kind() == ErrorKind::OutOfMemory {
+    *fault = Some(found);
+    if found.kind() == ErrorKind::OutOfMemory {
         ReadErr::Memory
     } else {
         ReadErr::Failed
+    }
+}
+
+impl<'a, R: std::rt::Files + Alloc> RealFiles<'a, R> {
+    ghost use Rattle.rbbi_io.specs.Counts.{one_more};
+
+    /// One try to write the file of this name, which is counted.
+    fn try_write(&mut self, name: &str, bytes: &[u8]) -> Result<(), WriteErr>
+        ensures { self.new ≡ record self.old { calls = one_more self.old.calls } }
+    {
+        self.calls = self.calls.saturating_add(1);
+        write_file(self.rt, name, bytes)
     }
 }
 
@@ -175,15 +212,21 @@ impl<'a, R: std::rt::Files + Alloc> Files for RealFiles<'a, R> {
     ghost writes_fit = { λ counts name. Prim.omega arith };
 
     fn read(&mut self, alloc: Global, name: &str, limit: u64) -> Result<Raw, ReadErr> {
-        let outcome = read_file(alloc, self.rt, name, limit);
+        let outcome = self.try_read(alloc, name, limit);
         if let Err(ReadErr::Failed) = &outcome {
             self.failed_reads = self.failed_reads.saturating_add(1);
         }
         outcome
     }
 
+    fn read_fault(&self) -> Option<io::Error>
+        ensures { result ≡ self.now.fault }
+    {
+        self.fault
+    }
+
     fn write(&mut self, name: &str, bytes: &[u8]) -> Result<(), WriteErr> {
-        let outcome = write_file(self.rt, name, bytes);
+        let outcome = self.try_write(name, bytes);
         match &outcome {
             Ok(()) => self.written = self.written.saturating_add(1),
             Err(WriteErr::Failed) => self.failed_writes = self.failed_writes.saturating_add(1),

@@ -14,7 +14,7 @@ use rbbi_text::Word;
 use std::alloc::{AllocError, Global};
 
 /// What leaving a piece out changes.
-#[derive(Debug, Drop)]
+#[derive(Drop)]
 pub enum Effect {
     /// Nothing: after each text the marks are the same.
     Nothing,

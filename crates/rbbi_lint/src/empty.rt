@@ -4,7 +4,7 @@ use rbbi_resolve::{Rules, Tree};
 use rbbi_tree::Quant;
 use std::alloc::{AllocError, Global};
 
-/// Whether a tree spells the empty word.
+/// Whether a tree spells the empty word. One call a level, at most 257.
 fn spells_empty(tree: &Tree) -> bool {
     match tree {
         Tree::Leaf(_) => false,

@@ -18,7 +18,7 @@ use rbbi_table::Table;
 use std::alloc::{AllocError, Global};
 
 /// What is found in a rule file. Places are in characters from 0.
-#[derive(Debug, Drop)]
+#[derive(Drop)]
 pub struct Findings {
     /// The pieces that change nothing, each left out alone. Within such a piece there is no other.
     pub idle: Vec<Piece>,

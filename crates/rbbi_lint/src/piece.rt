@@ -1,7 +1,7 @@
 //! Pieces of a rule file that can be left out.
 
 /// What a piece of a rule file is.
-#[derive(Clone, Copy, Debug, PartialEq, Eq)]
+#[derive(Clone, Copy, PartialEq, Eq)]
 pub enum Part {
     /// A rule up to its `;`.
     Rule,
@@ -12,7 +12,7 @@ pub enum Part {
 }
 
 /// A piece of a rule file, from a place up to another, in characters from 0.
-#[derive(Clone, Copy, Debug, PartialEq, Eq)]
+#[derive(Clone, Copy, PartialEq, Eq)]
 pub struct Piece {
     pub part: Part,
     pub from: u32,

@@ -14,7 +14,7 @@ use std::fmt::Write;
 
 /// Two rules that end after the same texts, and whose statuses differ. Places are in characters
 /// from 0.
-#[derive(Clone, Copy, Debug, PartialEq, Eq)]
+#[derive(Clone, Copy, PartialEq, Eq)]
 pub struct Pair {
     pub earlier: u32,
     pub later: u32,

@@ -1,7 +1,7 @@
 //! The units in which places of a text are counted.
 
 /// The unit of places, numbers and lengths of a text.
-#[derive(Clone, Copy, Debug, PartialEq, Eq)]
+#[derive(Clone, Copy, PartialEq, Eq)]
 pub enum Unit {
     /// Characters.
     Chars,

@@ -6,7 +6,7 @@ ghost use Rattle.rbbi_resolve.specs.RuleTrees.{tree_of};
 
 use rbbi_resolve::Tree;
 
-/// The number of leaves.
+/// The number of leaves. One call a level, at most 257.
 pub(crate) fn count(tree: &Tree) -> usize
     requires { (sets : List (List Range)) → leaf_count (tree_of sets tree.now) ≤ 8192 }
     ensures { (sets : List (List Range)) → result ≡ leaf_count (tree_of sets tree.now) }

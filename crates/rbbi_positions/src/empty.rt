@@ -7,7 +7,7 @@ ghost use Rattle.rbbi_positions.specs.inner.Trees.{is_nullable};
 use rbbi_resolve::Tree;
 use rbbi_tree::Quant;
 
-/// Whether the tree is nullable.
+/// Whether the tree is nullable. One call a level, at most 257.
 pub(crate) fn is_empty(tree: &Tree) -> bool
     ensures { (sets : List (List Range)) → result ≡ is_nullable (tree_of sets tree.now) }
 {

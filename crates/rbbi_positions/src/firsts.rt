@@ -11,7 +11,7 @@ use crate::empty::is_empty;
 use rbbi_bits::insert;
 use rbbi_resolve::Tree;
 
-/// Adds the first positions of a tree to a row.
+/// Adds the first positions of a tree to a row. One call a level, at most 257.
 pub(crate) fn add_firsts(tree: &Tree, first: usize, row: &mut [u64])
     requires short { length row.old ≤ 128 }
     requires within { (sets : List (List Range)) →

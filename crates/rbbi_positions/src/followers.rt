@@ -17,6 +17,7 @@ use rbbi_tree::Quant;
 use std::alloc::{AllocError, Global};
 
 /// Adds to the row of each position of a tree those that follow it, if `next` may follow the tree.
+/// One call a level, at most 257.
 pub(crate) fn add_followers(
     alloc: Global,
     tree: &Tree,

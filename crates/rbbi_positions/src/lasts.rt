@@ -11,7 +11,7 @@ use crate::empty::is_empty;
 use rbbi_bits::insert;
 use rbbi_resolve::Tree;
 
-/// Adds the last positions of a tree to a row.
+/// Adds the last positions of a tree to a row. One call a level, at most 257.
 pub(crate) fn add_lasts(tree: &Tree, first: usize, row: &mut [u64])
     requires short { length row.old ≤ 128 }
     requires within { (sets : List (List Range)) →

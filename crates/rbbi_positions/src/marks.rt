@@ -14,7 +14,7 @@ use std::marker::Model;
 /// `PositionMarks`; `ArePositions` says what they mean.
 ///
 /// Sets of positions are rows of bits, so that the union of many of them is quick.
-#[derive(Debug, Drop)]
+#[derive(Drop)]
 pub struct Positions {
     pub(crate) leaves: u32,
     /// The number of categories, category 0 counted.

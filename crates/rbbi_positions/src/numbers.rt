@@ -6,7 +6,7 @@ ghost use Rattle.rbbi_resolve.specs.RuleLists.{numbers_of_rule, leaf_numbers};
 use rbbi_resolve::{Rule, Rules, Tree};
 use std::alloc::{AllocError, Global};
 
-/// Adds the numbers of a tree's leaves, from the left.
+/// Adds the numbers of a tree's leaves, from the left. One call a level, at most 257.
 pub(crate) fn add_numbers(tree: &Tree, numbers: &mut Vec<u32>) -> Result<(), AllocError>
     ensures { OnOk result (numbers.new.items ≡ numbers.old.items ++ numbers_of tree.now) }
 {

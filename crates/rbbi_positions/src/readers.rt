@@ -1,10 +1,11 @@
 //! The positions that read each category.
-ghost use Rattle.std.specs.Prelude.{◌≡◌, ◌*◌, ◌<◌, ◌≤◌, IsTrue, ◌↔◌, IfOk, length};
+ghost use Rattle.std.specs.Prelude.{◌≡◌, ◌*◌, ◌<◌, ◌≤◌, ℕ, IsTrue, false, ◌↔◌, IfOk, OnOk, length};
 ghost use Rattle.std.specs.List.{AllByRecursion};
 ghost use Rattle.rbbi_model.specs.Ranges.{Has};
 ghost use Rattle.rbbi_classes.specs.CharacterSets.{characters_of};
 ghost use Rattle.rbbi_classes.specs.Divisions.{IsDivision};
 ghost use Rattle.rbbi_classes.specs.Steps.{number_at};
+ghost use Rattle.rbbi_positions.specs.inner.Rows.{in_row};
 ghost use Rattle.rbbi_positions.specs.inner.RuleTests.{AreCodesOf, ReadCode};
 ghost use Rattle.rbbi_positions.specs.inner.Readers.{HasEachCategory, AreReaders};
 
@@ -78,9 +79,31 @@ pub(crate) fn readers_of(
         AreReaders sets.now numbers.now codes.now words rows.items) }
 {
     let mut rows = vec![in alloc; 0u64; codes.len() * words]?;
+    add_readers(alloc, sets, numbers, codes, words, &mut rows)?;
+    Ok(rows)
+}
+
+/// Adds to the row of each category but 0, which is empty, the positions whose sets hold its code
+/// point.
+fn add_readers(
+    alloc: Global,
+    sets: &SetList,
+    numbers: &[u32],
+    codes: &[u32],
+    words: usize,
+    rows: &mut [u64],
+) -> Result<(), AllocError>
+    requires numbered { AllByRecursion (λ number. number < length sets.now) numbers.now }
+    requires wide { length numbers.now ≤ 64 * words }
+    requires many { length rows.old ≡ length codes.now * words }
+    requires few_categories { length codes.now ≤ 1000 }
+    requires few_words { words ≤ 128 }
+    requires empty { (category position : ℕ) → in_row words rows.old category position ≡ false }
+    ensures { OnOk result (AreReaders sets.now numbers.now codes.now words rows.new) }
+{
     for category in 1..codes.len() {
         let row = readers_of_code(alloc, sets, numbers, codes[category], words)?;
-        unite_row(&mut rows, category, &row);
+        unite_row(rows, category, &row);
     }
-    Ok(rows)
+    Ok(())
 }

@@ -2,7 +2,7 @@
 use std::marker::Model;
 
 /// What the automaton needs to know of a rule. Contracts see it as a `RuleMark`.
-#[derive(Clone, Copy, Debug)]
+#[derive(Clone, Copy)]
 pub(crate) struct Mark {
     pub(crate) chained_into: bool,
     pub(crate) tag: Option<u32>,

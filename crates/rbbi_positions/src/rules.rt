@@ -28,7 +28,7 @@ fn count_of_rule(rule: &Rule) -> usize
 }
 
 /// Which positions of a rule a row has.
-#[derive(Clone, Copy, Debug)]
+#[derive(Clone, Copy)]
 pub(crate) enum PositionKind {
     /// Those that its lists begin with. A front with a rest isn't empty.
     First,

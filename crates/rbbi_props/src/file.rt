@@ -17,7 +17,7 @@ use std::alloc::Global;
 use std::marker::Model;
 
 /// A property file: its name in loose form, and its rows in order.
-#[derive(Debug, Drop)]
+#[derive(Drop)]
 pub(crate) struct PropFile {
     pub(crate) name: Vec<u8>,
     pub(crate) rows: Vec<PropRow>,

@@ -14,7 +14,7 @@ use std::marker::Model;
 const LAST: u32 = 0x10_FFFF;
 
 /// A row of a property file: a value, and the code points that have it.
-#[derive(Debug, Drop)]
+#[derive(Drop)]
 pub(crate) struct PropRow {
     /// The value in loose form, which is computed once, since each look-up compares it. It is
     /// bytes, since it is only compared.

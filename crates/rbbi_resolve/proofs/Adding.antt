@@ -14,10 +14,10 @@ use Rattle.rbbi_classes.specs.Classes.{ClassBits}
 use Rattle.rbbi_classes.specs.Divisions.{ClassDivision, IsDivision, stand_in}
 use Rattle.rbbi_classes.proofs.FirstCodePoints.{stand-in_is_point}
 use Rattle.rbbi_resolve.specs.declared.context.Context.{Context}
-use Rattle.rbbi_resolve.specs.inner.Contexts.{files_of, division_of}
+use Rattle.rbbi_resolve.specs.inner.Contexts.{files_of, division_of, AddsRows}
 use Rattle.rbbi_resolve.specs.inner.Covered.{Respects}
 use Rattle.rbbi_resolve.specs.SetValues.{property_test, joined_to, signed, value_of_set, value_of_parts, value_of_item, value_of_property}
-use Rattle.rbbi_resolve.specs.inner.OwnLeaves.{IsLetter, IsLeafRow, AddsRows}
+use Rattle.rbbi_resolve.specs.inner.OwnLeaves.{IsLetter, IsLeafRow}
 use Rattle.rbbi_resolve.proofs.Covering.{nothing_respects, signed_respects}
 
 -- none

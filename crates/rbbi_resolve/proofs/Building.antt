@@ -355,7 +355,7 @@ building_turn context leaves start from whole all before now later next next' tr
       are = added.is ∙ ap (λ ts. ts ++ added.tree ∷ []) here.are ∙ append_assoc before here.ts (added.tree ∷ []);
       parts = subst (λ ss. AreBuilt files old ss (here.done ++ m ∷ []) (here.ts ++ added.tree ∷ [])) (sym on.is) pushed;
       stand = subst (λ n. StandFrom context leaves n rest) (sym moved)
-          (stand_parts (IsSetRow files (division_of context)) leaves.rows.items next own rest here.stand).1;
+          (stand_parts (IsSetRow files (division_of context)) leaves.rows.now.items next own rest here.stand).1;
       moved = let l = length-append own rest in let a = here.moved in omega arith;
     }
 
@@ -424,7 +424,7 @@ slice_get_set (z ∷ xs) (suc i) (suc j) x y e =
 
 -- a leaf's set has the next number
 pub set_added : (context : Context) (leaves : FileLeaves) (before after : Builder) (place : ℕ) (row : ClassBits) → IsBuilder context leaves before →
-    slice_get leaves.rows.items place ≡ Some (Some row) → IsLeafSet (characters_of (division_of context) row) →
+    slice_get leaves.rows.now.items place ≡ Some (Some row) → IsLeafSet (characters_of (division_of context) row) →
     length before.rows.items < 4294967295 → after.rows.items ≡ before.rows.items ++ row ∷ [] →
     after.numbers.items ≡ set before.numbers.items place (Some (length before.rows.items)) → Extends context leaves before after
 set_added context leaves before after place row b at lawful few rows numbers =
@@ -444,7 +444,7 @@ set_added context leaves before after place row b at lawful few rows numbers =
             ap (λ xs. slice_get xs number) rows
             ∙ elim (slice_get_set before.numbers.items place p (Some (length old)) (Some number) known') [
               | inl e ↦
-                  let here : slice_get leaves.rows.items p ≡ Some (Some row) = ap (slice_get leaves.rows.items) e.0 ∙ at in
+                  let here : slice_get leaves.rows.now.items p ≡ Some (Some row) = ap (slice_get leaves.rows.now.items) e.0 ∙ at in
                   let same : row ≡ other = cc in
                   let own = e.1 in
                   let last : length old ≡ number = cc in
@@ -457,17 +457,17 @@ set_added context leaves before after place row b at lawful few rows numbers =
 -- the tree of a leaf
 pub leaf_stands : (context : Context) (leaves : FileLeaves) (before after : Builder) (next n : ℕ) (value : Option model.SetTree) (t : Tree) →
     StandFrom context leaves next (value ∷ []) →
-    ((row : ClassBits) → slice_get leaves.rows.items next ≡ Some (Some row) → slice_get after.rows.items n ≡ Some row) →
+    ((row : ClassBits) → slice_get leaves.rows.now.items next ≡ Some (Some row) → slice_get after.rows.items n ≡ Some row) →
     ((k : ℕ) → length before.rows.items ≤ k → k < length after.rows.items → k ≡ n) →
     ((ss : List (List Range)) → tree_of ss t ≡ spelling.Leaf (set_at ss n)) → numbers_of t ≡ n ∷ [] → Builds context before after (leaf_of value) t
 leaf_stands context leaves before after next n value t stand number fresh of numbers =
-    let s = stand_leaf (IsSetRow (files_of context) (division_of context)) leaves.rows.items next value stand in
+    let s = stand_leaf (IsSetRow (files_of context) (division_of context)) leaves.rows.now.items next value stand in
     by_cases value s.0 s.1 s.2
   where
     characters : ClassBits → List Range
     characters = characters_of (division_of context)
 
-    by_cases : (v : Option model.SetTree) (row : Option ClassBits) → slice_get leaves.rows.items next ≡ Some row →
+    by_cases : (v : Option model.SetTree) (row : Option ClassBits) → slice_get leaves.rows.now.items next ≡ Some row →
         IsSetRow (files_of context) (division_of context) v row → Builds context before after (leaf_of v) t
     by_cases None row at is = absurd is
     by_cases (Some tree) None at is = absurd is

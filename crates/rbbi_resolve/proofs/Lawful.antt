@@ -24,7 +24,7 @@ use Rattle.rbbi_resolve.specs.Parts.{parts_of_expr}
 use Rattle.rbbi_resolve.specs.Faults.{faults_where, faults_of_parts}
 use Rattle.rbbi_resolve.specs.Files.{RuleMeaning, initial_context, context_after, faults_of_rest, faults_at_slash, faults_of_statement, faults_from, rule_in}
 use Rattle.rbbi_resolve.specs.Files.{rules_from, active_rules}
-use Rattle.rbbi_resolve.specs.Counts.{size_fault, placed_fault, no_rules_at, too_many_rules_at, too_many_leaves_at, too_many_slashes_at}
+use Rattle.rbbi_resolve.specs.Counts.{size_fault, placed_fault, no_rules_at, too_many_rules_at, too_many_leaves_at, too_many_slashes_at, too_tall_at}
 use Rattle.rbbi_resolve.specs.Counts as counts
 use Rattle.rbbi_resolve.specs.inner.Countings.{limit_place, one, slash_of}
 use Rattle.rbbi_resolve.specs.Outcomes.{BothStand, IsRuleOf, Means}
@@ -212,12 +212,17 @@ none_at : (kind : FaultKind) (p : Option ℕ) (other : Option Fault) → option_
 none_at kind None other e = (refl, e)
 none_at kind (Some p) other e = absurd cc
 
+none_placed : (kind : FaultKind) (p : Option ℕ) → placed_fault kind p ≡ None → p ≡ None
+none_placed kind None e = refl
+none_placed kind (Some p) e = absurd cc
+
 -- nothing is counted: there are rules, and not too many of anything
 pub record IsWithin (end : ℕ) (ms : List RuleMeaning) : Type 0 where
   pub some : no_rules_at end ms ≡ None
   pub rules : limit_place one 4096 0 ms ≡ None
   pub leaves : limit_place counts.leaves_meant 8192 0 ms ≡ None
   pub slashes : limit_place slash_of 32 0 ms ≡ None
+  pub tall : too_tall_at ms ≡ None
 
 pub within : (end : ℕ) (ms : List RuleMeaning) → size_fault end ms ≡ None → IsWithin end ms
 within end ms e =
@@ -230,6 +235,7 @@ within end ms e =
       rules = limit_place_one 4096 0 4096 ms refl ∙ many.0;
       leaves = limit_place_leaves 0 ms ∙ leaves.0;
       slashes = limit_place_slashes 32 ms 0 32 refl ∙ slashes.0;
+      tall = none_placed kinds.TooTall (too_tall_at ms) slashes.1;
     }
 
 -- nothing is counted, wherever the end is

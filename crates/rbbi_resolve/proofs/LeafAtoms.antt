@@ -13,8 +13,8 @@ use Rattle.rbbi_resolve.specs.declared.context.Context as code
 use Rattle.rbbi_resolve.specs.Contexts.{Context}
 use Rattle.rbbi_resolve.specs.Expressions.{leaf_of, meaning_of_atom, set_of_atom}
 use Rattle.rbbi_resolve.specs.inner.ClassValues.{IsClassValue}
-use Rattle.rbbi_resolve.specs.inner.Contexts.{files_of, division_of, bounds_of}
-use Rattle.rbbi_resolve.specs.inner.OwnLeaves.{IsLeafRow, AddsRows, leaves_of_atom}
+use Rattle.rbbi_resolve.specs.inner.Contexts.{files_of, division_of, bounds_of, AddsRows}
+use Rattle.rbbi_resolve.specs.inner.OwnLeaves.{IsLeafRow, leaves_of_atom}
 use Rattle.rbbi_resolve.proofs.ItemTrees.{atom_of_character, atom_of_any, atom_of_property, atom_of_set}
 
 -- the atom is one leaf, and means it

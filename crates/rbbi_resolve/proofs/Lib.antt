@@ -25,6 +25,7 @@ pub mod SoundFiles
 pub mod Adding
 pub mod TreeValues
 pub mod Weights
+pub mod Heights
 pub mod Joining
 pub mod Building
 pub mod LeafAtoms

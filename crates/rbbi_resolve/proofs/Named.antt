@@ -5,7 +5,7 @@ use Rattle.rbbi_classes.specs.Classes.{ClassBits}
 use Rattle.rbbi_model.specs.SetTrees as model
 use Rattle.rbbi_props.specs.Rows.{File}
 use Rattle.rbbi_tree.specs.Trees as trees
-use Rattle.rbbi_tree.specs.Trees.{SetSyntax, joined, set_property, set_within}
+use Rattle.rbbi_tree.specs.Trees.{SetSyntax, StatementTree, joined, set_property, set_within}
 use Rattle.rbbi_tree.specs.declared.syntax.Join.{Join}
 use Rattle.rbbi_resolve.specs.declared.fault.Fault.{Fault}
 use Rattle.rbbi_resolve.specs.declared.fault.FaultKind.{FaultKind}
@@ -26,14 +26,14 @@ use Rattle.rbbi_resolve.proofs.Noting.{noted_parts_of_append}
 use Rattle.rbbi_resolve.specs.inner.Summaries.{Sums, Summarizes}
 
 -- the counts of a variable that is no set
-pub counts_of_expression : (files : List File) (bounds : List ℕ) (here : Kind) (summary higher : Summary) (there : contexts.Variable) →
+pub counts_of_expression : (files : List File) (bounds : List ℕ) (statements : List StatementTree) (here : Kind) (summary higher : Summary) (there : contexts.Variable) →
     here ≡ kind.Expression summary →
-    ((a h : ℕ) (e : Bool) → Sums summary a h e → Sums higher a (h + 1) e) → IsKindOf files bounds here there →
+    ((a h : ℕ) (e : Bool) → Sums summary a h e → Sums higher a (h + 1) e) → IsKindOf files bounds statements here there →
     Summarizes higher (meaning_of_variable (Some there)) (height_of_variable (Some there))
-counts_of_expression files bounds here summary higher (contexts.Set value) is raises same = absurd (subst (λ k. IsKindOf files bounds k
+counts_of_expression files bounds statements here summary higher (contexts.Set value) is raises same = absurd (subst (λ k. IsKindOf files bounds statements k
     (contexts.Set value)) is same)
-counts_of_expression files bounds here summary higher (contexts.Expression meaning height) is raises same =
-    let sums : Summarizes summary meaning height = subst (λ k. IsKindOf files bounds k (contexts.Expression meaning height)) is same in
+counts_of_expression files bounds statements here summary higher (contexts.Expression meaning height) is raises same =
+    let sums : Summarizes summary meaning height = subst (λ k. IsKindOf files bounds statements k (contexts.Expression meaning height)) is same in
     raises _ _ _ sums
 
 -- a property is known where classes were found for it

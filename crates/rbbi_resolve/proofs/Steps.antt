@@ -84,20 +84,20 @@ control_variables k text = control_keeps k (bytes_eq text (codes "chain")) (byte
 
 named_before : (files : List File) (bounds : List ℕ) (statements : List StatementTree) (end limit : ℕ) (name : List ℕ) (v : Option Variable) → limit ≤ end →
     MatchOption v (IsUnassigned files statements end name) (IsDefinedBy files bounds statements end name) →
-    Matches files bounds (visible limit v) (assigned_to (context_at files statements limit).variables name)
-named_before files bounds statements end limit name None low is = subst (λ x. Matches files bounds None x) (sym (is limit low)) tt
+    Matches files bounds statements (visible limit v) (assigned_to (context_at files statements limit).variables name)
+named_before files bounds statements end limit name None low is = subst (λ x. Matches files bounds statements None x) (sym (is limit low)) tt
 named_before files bounds statements end limit name (Some v) low is =
     elim (cases_lt v.statement limit) [
       | inl lt ↦
           let test : nat_lt v.statement limit ≡ true = grind (arith, nat_tests) in
           let seen : visible limit (Some v) ≡ Some v = ap (λ b. if b then Some v else None) test in
-          subst (λ a. Matches files bounds a (assigned_to (context_at files statements limit).variables name)) (sym seen)
-          (subst (λ x. Matches files bounds (Some v) x) (sym (is.behind limit lt low)) is.kind)
+          subst (λ a. Matches files bounds statements a (assigned_to (context_at files statements limit).variables name)) (sym seen)
+          (subst (λ x. Matches files bounds statements (Some v) x) (sym (is.behind limit lt low)) is.kind)
       | inr ge ↦
           let test : nat_lt v.statement limit ≡ false = grind (arith, nat_tests) in
           let unseen : visible limit (Some v) ≡ None = ap (λ b. if b then Some v else None) test in
-          subst (λ a. Matches files bounds a (assigned_to (context_at files statements limit).variables name)) (sym unseen)
-          (subst (λ x. Matches files bounds None x) (sym (is.before limit ge)) tt)
+          subst (λ a. Matches files bounds statements a (assigned_to (context_at files statements limit).variables name)) (sym unseen)
+          (subst (λ x. Matches files bounds statements None x) (sym (is.before limit ge)) tt)
     ]
 
 -- the variables describe what stands before a limit
@@ -152,7 +152,7 @@ module _ (files : List File) (bounds : List ℕ) (statements : List StatementTre
     (next : (context_at files statements (n + 1)).variables ≡ made word (variable_for (context_at files statements n) expr) ∷
     (context_at files statements n).variables)
     (unknown : get_by_text variables (encode_utf8_all word) ≡ None)
-    (kind_is : IsKindOf files bounds kind (variable_for (context_at files statements n) expr))
+    (kind_is : IsKindOf files bounds statements kind (variable_for (context_at files statements n) expr))
     (put : (cs : List ℕ) → get_by_text variables' cs ≡ update bytes_eq (get_by_text variables) (encode_utf8_all word)
     (Some (record { statement = n; kind = kind })) cs)
     (are : AreVariables files bounds statements variables n) where
@@ -198,11 +198,12 @@ module _ (files : List File) (bounds : List ℕ) (statements : List StatementTre
   join_variable = record { each = λ name. joined_named name (bytes_eq (encode_utf8_all word) name) refl }
 
 -- both are there, or both absent
-pub matches_some : (files : List File) (bounds : List ℕ) (a : Option Variable) (b : Option contexts.Variable) → Matches files bounds a b → is_some a ≡ is_some b
-matches_some files bounds None None m = refl
-matches_some files bounds None (Some w) m = absurd m
-matches_some files bounds (Some v) None m = absurd m
-matches_some files bounds (Some v) (Some w) m = refl
+pub matches_some : (files : List File) (bounds : List ℕ) (statements : List StatementTree) (a : Option Variable) (b : Option contexts.Variable) →
+    Matches files bounds statements a b → is_some a ≡ is_some b
+matches_some files bounds statements None None m = refl
+matches_some files bounds statements None (Some w) m = absurd m
+matches_some files bounds statements (Some v) None m = absurd m
+matches_some files bounds statements (Some v) (Some w) m = refl
 
 -- a variable that isn't seen isn't there
 pub unseen : (files : List File) (bounds : List ℕ) (statements : List StatementTree) (n : ℕ) (name : List ℕ) (v : Option Variable) →

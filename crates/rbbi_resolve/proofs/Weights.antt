@@ -1,8 +1,7 @@
--- A number that falls from an expression to its parts and to those of its variables.
-use Rattle.std.proofs.Common.{◌≡◌, ℕ, zero, suc, ◌+◌, ◌<◌, ◌≤◌, Some, List, [], ◌∷◌, map, length, get_or, slice_get, refl, ap, arith}
+-- A number that falls from an expression to its parts.
+use Rattle.std.proofs.Common.{◌≡◌, ℕ, zero, suc, ◌+◌, ◌<◌, List, [], ◌∷◌, map, length, get_or, ap, arith}
 use Rattle.rbbi_tree.specs.Trees.{ExprTree, SeqTree, ItemTree, AtomTree, no_alternatives, alternative, no_items, item, placed, character, quoted, any, name}
 use Rattle.rbbi_tree.specs.Trees.{property, set, group, expr_of, seq_of}
-use Rattle.rbbi_tree.specs.Trees.{StatementTree, nothing, control, assign, rule}
 use Rattle.rbbi_tree.specs.Trees.{SetSyntax, PartsTree, PartTree, SetItemTree, set_of, no_parts, part, joined, set_character, set_range, set_name, set_property}
 use Rattle.rbbi_tree.specs.Trees.{set_within, parts_of}
 use Rattle.rbbi_tree.specs.Values.{seq_tree, item_tree, atom_tree, part_tree, set_item_tree, item_tree_out, part_tree_out}
@@ -50,41 +49,6 @@ abbrev mutual
   size_of_member (set_name word) = 1
   size_of_member (set_property negated word value) = 1
   size_of_member (set_within inner) = size_of_set inner + 1
-
-abbrev pub weight_of : StatementTree → ℕ
-weight_of nothing = 2
-weight_of (control word place) = 2
-weight_of (assign word place expr) = size_of_expr expr + 2
-weight_of (rule place no_chain_in front slash rest tag) = 2
-
--- the weight of the statements before a limit
-abbrev pub weight : List StatementTree → ℕ → ℕ
-weight [] n = 0
-weight (s ∷ statements) zero = 0
-weight (s ∷ statements) (suc n) = weight_of s + weight statements n
-
-weight_none : (statements : List StatementTree) (n : ℕ) → n ≡ 0 → weight statements n ≡ 0
-weight_none [] n e = refl
-weight_none (s ∷ statements) zero e = refl
-weight_none (s ∷ statements) (suc n) e = absurd (omega arith)
-
-pub weight_more : (statements : List StatementTree) (n m : ℕ) (s : StatementTree) → slice_get statements n ≡ Some s → m ≡ n + 1 →
-    weight statements m ≡ weight statements n + weight_of s
-weight_more [] n m s at e = absurd cc
-weight_more (x ∷ statements) zero zero s at e = absurd (omega arith)
-weight_more (x ∷ statements) zero (suc m) s at e =
-    let same : x ≡ s = cc in
-    let w = ap weight_of same in
-    let z = weight_none statements m (omega arith) in
-    omega arith
-weight_more (x ∷ statements) (suc n) zero s at e = absurd (omega arith)
-weight_more (x ∷ statements) (suc n) (suc m) s at e = let r = weight_more statements n m s at (omega arith) in omega arith
-
-pub weight_le : (statements : List StatementTree) (m n : ℕ) → m ≤ n → weight statements m ≤ weight statements n
-weight_le [] m n low = omega arith
-weight_le (x ∷ statements) zero n low = omega arith
-weight_le (x ∷ statements) (suc m) zero low = absurd (omega arith)
-weight_le (x ∷ statements) (suc m) (suc n) low = let r = weight_le statements m n (omega arith) in omega arith
 
 pub smaller_seq : (items : List Seq) (i : ℕ) (p : Seq) → i < length items → p ≡ get_or items i p →
     size_of_seq (seq_tree p) < size_of_expr (expr_of (map seq_tree items))

@@ -1,12 +1,13 @@
 //! The active rules of a file without faults, with their trees.
-ghost use Rattle.std.specs.Prelude.{◌≡◌, ◌+◌, ◌<◌, ◌&&◌, not, ℕ, [], None, IfOk, OnOk};
+ghost use Rattle.std.specs.Prelude.{◌≡◌, ◌+◌, ◌<◌, ◌≤◌, ◌&&◌, not, ℕ, [], None, IfOk, OnOk};
 ghost use Rattle.std.specs.Prelude.{length, option_map};
+ghost use Rattle.std.specs.Option.{option_map_or};
 ghost use Rattle.rbbi_model.specs.Rules.{AreLawful};
 ghost use Rattle.rbbi_tree.specs.Values.{statement_trees, rest_tree};
 ghost use Rattle.rbbi_tree.specs.WellMade.{AreWellMade};
-ghost use Rattle.rbbi_resolve.specs.Expressions.{meaning_of_expr};
+ghost use Rattle.rbbi_resolve.specs.Expressions.{meaning_of_expr, height_of_expr};
 ghost use Rattle.rbbi_resolve.specs.Files.{faults_of, active_rules};
-ghost use Rattle.rbbi_resolve.specs.Counts.{size_fault};
+ghost use Rattle.rbbi_resolve.specs.Counts.{size_fault, too_tall_at};
 ghost use Rattle.rbbi_resolve.specs.inner.Contexts.{context_of, files_of, sets_of};
 ghost use Rattle.rbbi_resolve.specs.inner.OwnLeaves.{leaves_of_rest};
 ghost use Rattle.rbbi_resolve.specs.inner.Builders.{IsBuilder, IsReady, Extends, StandFrom};
@@ -16,7 +17,6 @@ ghost use Rattle.rbbi_resolve.specs.inner.Readings.{IsReading, HasLeaves};
 ghost use Rattle.rbbi_resolve.specs.Outcomes.{Means};
 
 use crate::build::{Builder, FileLeaves};
-use crate::classes::Classes;
 use crate::context::Context;
 use crate::file::Reading;
 use crate::rules::{Rule, Rules, SetList, Tree};
@@ -37,6 +37,8 @@ fn tree_of_rest(
     requires builder { IsBuilder context.now leaves.now builder.old }
     requires stand { StandFrom context.now leaves.now next.old
         (leaves_of_rest (context_of context.now) (rest_tree rest.now)) }
+    requires low { option_map_or (height_of_expr (context_of context.now))
+        (rest_tree rest.now) 0 ≤ 256 }
     ensures on { OnOk result (Extends context.now leaves.now builder.old builder.new) }
     ensures built { IfOk result (IsRestBuilt (files_of context.now)
         (length (sets_of context.now builder.old.rows.items))
@@ -62,6 +64,8 @@ fn add_statement(
     requires rules { AreRulesTo context.now leaves.now builder.old switches.old rules.old.items
         context.now.limit }
     requires inside { context.now.limit < length context.now.statements.now }
+    requires low { too_tall_at (active_rules (files_of context.now)
+        (statement_trees context.now.statements.now)) ≡ None }
     ensures { OnOk result (AreRulesTo context.now leaves.now builder.new switches.new
         rules.new.items (context.now.limit + 1)) }
 {
@@ -110,6 +114,8 @@ fn rules_with_trees(
     requires builder { IsBuilder context.now leaves.now builder.old }
     requires empty { builder.old.rows.items ≡ [] }
     requires all { context.now.limit ≡ length context.now.statements.now }
+    requires low { too_tall_at (active_rules (files_of context.now)
+        (statement_trees context.now.statements.now)) ≡ None }
     ensures { IfOk result (λ rules. AreAllRules (files_of context.now)
         (statement_trees context.now.statements.now)
         (sets_of context.now builder.new.rows.items) rules.items) }
@@ -127,46 +133,36 @@ fn rules_with_trees(
 }
 
 /// The rules of a file that was read and has no fault.
-pub(crate) fn build_rules(alloc: Global, reading: Reading) -> Result<Rules, AllocError>
-    requires reading { IsReading reading (length reading.statements.now) }
-    requires leaves { HasLeaves reading (length reading.statements.now) }
-    requires well_made { AreWellMade (statement_trees reading.statements.now) }
-    requires faultless { faults_of reading.table.now reading.dictionary_ignored
-        (statement_trees reading.statements.now) ≡ [] }
-    requires few { (end : ℕ) × (size_fault end (active_rules reading.table.now
-        (statement_trees reading.statements.now)) ≡ None) }
-    ensures means { IfOk result (λ rules. Means reading.entry.table.now
-        reading.entry.dictionary_ignored
-        (statement_trees reading.entry.statements.now) (rules_of rules)) }
+pub(crate) fn build_rules(alloc: Global, reading: &Reading) -> Result<Rules, AllocError>
+    requires reading { IsReading reading.now (length reading.now.statements.now) }
+    requires leaves { HasLeaves reading.now (length reading.now.statements.now) }
+    requires well_made { AreWellMade (statement_trees reading.now.statements.now) }
+    requires faultless { faults_of reading.now.table.now reading.now.dictionary_ignored
+        (statement_trees reading.now.statements.now) ≡ [] }
+    requires few { (end : ℕ) × (size_fault end (active_rules reading.now.table.now
+        (statement_trees reading.now.statements.now)) ≡ None) }
+    ensures means { IfOk result (λ rules. Means reading.now.table.now
+        reading.now.dictionary_ignored
+        (statement_trees reading.now.statements.now) (rules_of rules)) }
     ensures lawful { IfOk result (λ rules. AreLawful (rules_of rules)) }
 {
-    let Reading {
-        statements,
-        table,
-        variables,
-        classes,
-        leaves,
-        firsts,
-        counts,
-        ..
-    } = reading;
     let context = Context {
-        table,
-        statements,
-        variables: &variables,
-        classes: &classes,
-        limit: statements.len(),
+        table: reading.table,
+        statements: reading.statements,
+        variables: &reading.variables,
+        classes: &reading.classes,
+        limit: reading.statements.len(),
         quoted_only: false,
     };
     let leaves = FileLeaves {
-        rows: leaves.rows,
-        firsts,
+        rows: &reading.leaves.rows,
+        firsts: &reading.firsts,
     };
     let mut builder = Builder::new(alloc, &leaves)?;
     let rules = rules_with_trees(alloc, &context, &leaves, &mut builder)?;
-    let Builder { rows, .. } = builder;
-    let Classes { division, .. } = classes;
-    let sets = SetList::of_rows(division, rows);
+    let division = reading.classes.division.clone()?;
+    let sets = SetList::of_rows(division, builder.rows);
+    let counts = &reading.counts;
     Ok(Rules::new(rules, sets, counts.leaves.sum, counts.slashes.sum))
 }
 

@@ -8,16 +8,20 @@ ghost use Rattle.rbbi_tree.specs.Values.{statement_trees, expr_tree, seq_tree, i
 ghost use Rattle.rbbi_tree.specs.Values.{atom_tree};
 ghost use Rattle.rbbi_resolve.specs.Expressions.{word_of, leaf_of, meaning_of_expr, meaning_of_seq};
 ghost use Rattle.rbbi_resolve.specs.Expressions.{meaning_of_item, meaning_of_atom};
-ghost use Rattle.rbbi_resolve.specs.inner.Contexts.{context_of, division_of};
+ghost use Rattle.rbbi_resolve.specs.Expressions.{height_of_expr, height_of_seq, height_of_item};
+ghost use Rattle.rbbi_resolve.specs.Expressions.{height_of_atom};
+ghost use Rattle.rbbi_resolve.specs.inner.Contexts.{context_of, division_of, files_of};
+ghost use Rattle.rbbi_resolve.specs.inner.Contexts.{IsAssigned, IsWritten};
 ghost use Rattle.rbbi_resolve.specs.inner.OwnLeaves.{leaves_of_expr, leaves_of_seq, leaves_of_item};
 ghost use Rattle.rbbi_resolve.specs.inner.OwnLeaves.{leaves_of_atom, IsLawfulRow};
-ghost use Rattle.rbbi_resolve.specs.inner.Builders.{StandFrom, Builds, IsBuilder, IsAssigned};
+ghost use Rattle.rbbi_resolve.specs.inner.Builders.{StandFrom, Builds, IsBuilder};
 ghost use Rattle.rbbi_resolve.specs.inner.Builders.{AddsTree, Extends, IsReady};
 
 use crate::context::Context;
 use crate::rules::Tree;
 use crate::summary::count_of;
 use crate::tree::{in_choice, in_sequence, leaf_of_set, repeat_last};
+use crate::variables::Kind;
 use rbbi_classes::ClassSet;
 use rbbi_text::Word;
 use rbbi_tree::{Atom, Expr, Item, Seq, Statement, Statements};
@@ -27,12 +31,12 @@ use std::alloc::{AllocError, Global};
 const MOST_SETS: usize = 4_294_967_295;
 
 /// The leaves of a file.
-#[derive(Drop)]
-pub(crate) struct FileLeaves {
+#[derive(Clone, Copy)]
+pub(crate) struct FileLeaves<'a> {
     /// Of each leaf its value by classes, where it has one.
-    pub(crate) rows: Vec<Option<ClassSet>>,
+    pub(crate) rows: &'a Vec<Option<ClassSet>>,
     /// For each statement the number of its first leaf.
-    pub(crate) firsts: Vec<usize>,
+    pub(crate) firsts: &'a Vec<usize>,
 }
 
 /// The sets of the leaves so far.
@@ -69,9 +73,9 @@ impl Builder {
     ) -> Result<u32, AllocError>
         requires builder { IsBuilder context.now leaves.now self.old }
         requires row { IsLawfulRow (division_of context.now)
-            (slice_get leaves.now.rows.items place) }
+            (slice_get leaves.now.rows.now.items place) }
         ensures on { OnOk result (Extends context.now leaves.now self.old self.new) }
-        ensures number { IfOk result (λ number. (row : ClassBits) → slice_get leaves.now.rows.items
+        ensures number { IfOk result (λ number. (row : ClassBits) → slice_get leaves.now.rows.now.items
             place ≡ Some (Some row) → slice_get self.new.rows.items number ≡ Some row) }
         ensures fresh { IfOk result (λ number. (k : ℕ) → length self.old.rows.items ≤ k
             → k < length self.new.rows.items → k ≡ number) }
@@ -141,7 +145,33 @@ impl Builder {
         Ok(())
     }
 
-    /// Adds the tree of the expression that the statement with the number `limit` assigns.
+    /// Adds the tree of a variable that is a set: the leaf of the statement that writes the set,
+    /// however long the chain of names is that leads there.
+    #[inline(never)]
+    fn add_set(
+        &mut self,
+        context: &Context,
+        leaves: &FileLeaves,
+        writer: usize,
+        trees: &mut Vec<Tree>,
+    ) -> Result<(), AllocError>
+        requires ready { IsReady context.now leaves.now }
+        requires builder { IsBuilder context.now leaves.now self.old }
+        requires written { (value : Option model.SetTree) × IsWritten (files_of context.now)
+            (statement_trees context.now.statements.now) writer value }
+        ensures on { OnOk result (Extends context.now leaves.now self.old self.new) }
+        ensures added { OnOk result ((value : Option model.SetTree) → IsWritten
+            (files_of context.now) (statement_trees context.now.statements.now) writer value →
+            AddsTree context.now self.old self.new (leaf_of value) trees.old.items
+            trees.new.items) }
+    {
+        let mut next = leaves.firsts[writer];
+        self.add_leaf(context, leaves, &mut next, trees)?;
+        Ok(())
+    }
+
+    /// Adds the tree of the expression that the statement with the number `limit` assigns, which is
+    /// no set.
     #[cycle(build)]
     fn add_definition(
         &mut self,
@@ -153,6 +183,8 @@ impl Builder {
         requires ready { IsReady context.now leaves.now }
         requires builder { IsBuilder context.now leaves.now self.old }
         requires inside { context.now.limit < length context.now.statements.now }
+        requires low { (expr : ExprTree) → IsAssigned (statement_trees context.now.statements.now)
+            context.now.limit expr → height_of_expr (context_of context.now) expr ≤ 256 }
         ensures on { OnOk result (Extends context.now leaves.now self.old self.new) }
         ensures added { OnOk result ((expr : ExprTree)
             → IsAssigned (statement_trees context.now.statements.now) context.now.limit expr
@@ -171,8 +203,10 @@ impl Builder {
 
     /// Adds the tree of an expression whose leaves have the numbers from `next` on.
     ///
-    /// Trees are handed on in a list, and what takes them from there isn't inlined, so that the
-    /// frames of this walk stay small: it goes as deep as the highest rule.
+    /// Each group and each variable that is no set adds 1 to the height, of which a rule has 256 at
+    /// most. So at most 257 expressions are open at once, each in five calls or fewer. Trees are
+    /// handed on in a list, and what takes them from there isn't inlined, so that the frames stay
+    /// small.
     #[cycle(build)]
     fn add_expr(
         &mut self,
@@ -187,6 +221,7 @@ impl Builder {
         requires builder { IsBuilder context.now leaves.now self.old }
         requires stand { StandFrom context.now leaves.now next.old
             (leaves_of_expr (context_of context.now) (expr_tree expr.now)) }
+        requires low { height_of_expr (context_of context.now) (expr_tree expr.now) ≤ 256 }
         ensures on { OnOk result (Extends context.now leaves.now self.old self.new) }
         ensures moved { OnOk result (next.new ≡ next.old
             + length (leaves_of_expr (context_of context.now) (expr_tree expr.now))) }
@@ -217,6 +252,7 @@ impl Builder {
         requires builder { IsBuilder context.now leaves.now self.old }
         requires stand { StandFrom context.now leaves.now next.old
             (leaves_of_seq (context_of context.now) (seq_tree seq.now)) }
+        requires low { height_of_seq (context_of context.now) (seq_tree seq.now) ≤ 256 }
         ensures on { OnOk result (Extends context.now leaves.now self.old self.new) }
         ensures moved { OnOk result (next.new ≡ next.old
             + length (leaves_of_seq (context_of context.now) (seq_tree seq.now))) }
@@ -247,6 +283,7 @@ impl Builder {
         requires builder { IsBuilder context.now leaves.now self.old }
         requires stand { StandFrom context.now leaves.now next.old
             (leaves_of_item (context_of context.now) (item_tree item.now)) }
+        requires low { height_of_item (context_of context.now) (item_tree item.now) ≤ 256 }
         ensures on { OnOk result (Extends context.now leaves.now self.old self.new) }
         ensures moved { OnOk result (next.new ≡ next.old
             + length (leaves_of_item (context_of context.now) (item_tree item.now))) }
@@ -274,6 +311,7 @@ impl Builder {
         requires builder { IsBuilder context.now leaves.now self.old }
         requires stand { StandFrom context.now leaves.now next.old
             (leaves_of_atom (context_of context.now) (atom_tree atom.now)) }
+        requires low { height_of_atom (context_of context.now) (atom_tree atom.now) ≤ 256 }
         ensures on { OnOk result (Extends context.now leaves.now self.old self.new) }
         ensures moved { OnOk result (next.new ≡ next.old
             + length (leaves_of_atom (context_of context.now) (atom_tree atom.now))) }
@@ -287,14 +325,17 @@ impl Builder {
             )?),
             Atom::Quoted(word) => Ok(self.add_word(context, leaves, next, trees, word)?),
             Atom::Name(name) => match context.variable(name) {
-                Some(variable) => {
-                    let inner = Context {
-                        limit: variable.statement,
-                        ..*context
-                    };
-                    self.add_definition(alloc, &inner, leaves, trees)?;
-                    Ok(())
-                }
+                Some(variable) => match &variable.kind {
+                    Kind::Set(_, writer) => Ok(self.add_set(context, leaves, *writer, trees)?),
+                    Kind::Expression(_) => {
+                        let inner = Context {
+                            limit: variable.statement,
+                            ..*context
+                        };
+                        self.add_definition(alloc, &inner, leaves, trees)?;
+                        Ok(())
+                    }
+                },
                 None => {
                     // A choice of nothing.
                     let first = trees.len();
@@ -318,6 +359,7 @@ impl Builder {
         requires builder { IsBuilder context.now leaves.now self.old }
         requires stand { StandFrom context.now leaves.now next.old
             (leaves_of_expr (context_of context.now) (expr_tree expr.now)) }
+        requires low { height_of_expr (context_of context.now) (expr_tree expr.now) ≤ 256 }
         ensures on { OnOk result (Extends context.now leaves.now self.old self.new) }
         ensures moved { OnOk result (next.new ≡ next.old
             + length (leaves_of_expr (context_of context.now) (expr_tree expr.now))) }

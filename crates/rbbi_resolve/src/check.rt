@@ -3,7 +3,7 @@ ghost use Rattle.std.specs.Prelude.{◌≡◌, ◌++◌, ℕ, List, Option, Some
 ghost use Rattle.rbbi_model.specs.SetTrees as model;
 ghost use Rattle.rbbi_props.specs.Rows.{File};
 ghost use Rattle.rbbi_tree.specs.Trees.{name as named_atom, property as property_atom};
-ghost use Rattle.rbbi_tree.specs.Trees.{set as set_atom, placed};
+ghost use Rattle.rbbi_tree.specs.Trees.{set as set_atom, placed, StatementTree};
 ghost use Rattle.rbbi_tree.specs.declared.syntax.Quant.{Quant};
 ghost use Rattle.rbbi_tree.specs.declared.syntax.Quant.TheVariants.{Once};
 ghost use Rattle.rbbi_tree.specs.Values.{expr_tree, seq_tree, item_tree, atom_tree, set_tree};
@@ -22,9 +22,9 @@ ghost use Rattle.rbbi_classes.specs.Divisions.{stand_in};
 ghost use Rattle.rbbi_resolve.specs.inner.Faults.{noted_parts};
 ghost use Rattle.rbbi_resolve.specs.Faults.{is_empty_value};
 ghost use Rattle.rbbi_resolve.specs.inner.Contexts.{IsContext, KnowsQuotes, IsKindOf, context_of};
-ghost use Rattle.rbbi_resolve.specs.inner.Contexts.{files_of, stand_of};
-ghost use Rattle.rbbi_resolve.specs.inner.OwnLeaves.{AddsRows, leaves_of_expr, leaves_of_seq};
-ghost use Rattle.rbbi_resolve.specs.inner.OwnLeaves.{leaves_of_item, leaves_of_atom};
+ghost use Rattle.rbbi_resolve.specs.inner.Contexts.{files_of, stand_of, AddsRows};
+ghost use Rattle.rbbi_resolve.specs.inner.OwnLeaves.{leaves_of_expr, leaves_of_seq, leaves_of_item};
+ghost use Rattle.rbbi_resolve.specs.inner.OwnLeaves.{leaves_of_atom};
 ghost use Rattle.rbbi_resolve.specs.inner.Summaries.{Summarizes};
 
 use crate::context::Context;
@@ -39,8 +39,8 @@ use std::alloc::{AllocError, Global};
 
 /// Notes the faults of an expression, counts it, and adds its leaves.
 ///
-/// What the walk calls for a leaf isn't inlined, so that its frames stay small: 64 open groups are
-/// to take less than 64 KiB of stack.
+/// At most 64 groups are open, so at most 65 expressions are, each in four calls or fewer. What the
+/// walk calls for a leaf isn't inlined, so that these frames stay small.
 #[cycle(check)]
 pub(crate) fn check_expr(
     alloc: Global,
@@ -204,12 +204,13 @@ fn check_name(context: &Context, least: &mut Option<Fault>, place: u32, name: &W
 
 /// The counts of a variable, used as an atom.
 fn summary_of(kind: &Kind) -> Summary
-    ensures { (files : List File) (bounds : List ℕ) (variable : contexts.Variable)
-        → IsKindOf files bounds kind.now variable → Summarizes
+    ensures { (files : List File) (bounds : List ℕ) (statements : List StatementTree)
+        (variable : contexts.Variable)
+        → IsKindOf files bounds statements kind.now variable → Summarizes
         result (meaning_of_variable (Some variable)) (height_of_variable (Some variable)) }
 {
     match kind {
-        Kind::Set(_) => Summary::flat(1, false),
+        Kind::Set(_, _) => Summary::flat(1, false),
         Kind::Expression(summary) => summary.higher(),
     }
 }

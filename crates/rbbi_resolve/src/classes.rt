@@ -1,5 +1,5 @@
 //! The partition of the code points by the sets of a rule file.
-ghost use Rattle.std.specs.Prelude.{◌≡◌, List, IfOk, IfSome, OnOk};
+ghost use Rattle.std.specs.Prelude.{◌≡◌, ℕ, List, IfOk, IfSome, OnOk};
 ghost use Rattle.std.specs.Rc.{rc_value};
 ghost use Rattle.rbbi_props.specs.Rows.{File};
 ghost use Rattle.rbbi_resolve.specs.SetValues.{value_of_property};
@@ -7,7 +7,7 @@ ghost use Rattle.rbbi_tree.specs.Values.{statement_trees};
 ghost use Rattle.rbbi_resolve.specs.inner.ClassValues.{AreRightClasses, IsClassValue};
 ghost use Rattle.rbbi_resolve.specs.inner.ClassValues.{IsKnown, IsDivided};
 ghost use Rattle.rbbi_resolve.specs.inner.Questions.{IsRightAnswer};
-ghost use Rattle.rbbi_resolve.specs.inner.Covered.{CoversAll};
+ghost use Rattle.rbbi_resolve.specs.inner.Covered.{CoversAll, AreRespected, IsCollection};
 ghost use Rattle.std.specs.HashMap.{values};
 ghost use Rattle.std.specs.List.{All};
 ghost use Rattle.rbbi_classes.specs.Divisions.{stand_in};
@@ -26,7 +26,7 @@ use std::alloc::{AllocError, Global};
 use std::rc::Rc;
 
 /// The set of a property by classes; None if the property is unknown.
-#[derive(Debug, Drop)]
+#[derive(Drop)]
 pub(crate) struct PropertyClasses {
     pub(crate) question: Rc<Question>,
     pub(crate) set: Rc<Option<ClassSet>>,
@@ -53,18 +53,10 @@ impl Classes {
         ensures covers { IfOk result (λ classes. CoversAll
             table.now (stand_in (rc_value classes.division)) (statement_trees statements.now)) }
     {
-        let mut collection = Collection::new(alloc)?;
-        for number in 0..statements.len() {
-            collect_statement(alloc, table, &mut collection, statements.get(number))?;
-        }
-        let Collection { bases, answers, .. } = collection;
-        let division = Division::new(alloc, &bases)?;
-        let sets = by_classes(alloc, division.layout(), &answers)?;
-        let shared = Rc::new(alloc, division)?;
-        Ok(Classes {
-            division: shared,
-            sets,
-        })
+        let collection = collected(alloc, table, statements)?;
+        let division = Rc::new(alloc, Division::new(alloc, &collection.bases)?)?;
+        let sets = by_classes(alloc, division.as_ref().layout(), &collection.answers)?;
+        Ok(Classes { division, sets })
     }
 
     /// The set of a property, by its key; None if another property has that key.
@@ -86,6 +78,39 @@ impl Classes {
             None
         }
     }
+}
+
+/// What the statements of a rule file collect.
+fn collected(
+    alloc: Global,
+    table: &PropTable,
+    statements: &Statements,
+) -> Result<Collection, AllocError>
+    ensures kept { IfOk result (IsCollection table.now) }
+    ensures covers { IfOk result (λ collection. (stand : ℕ → ℕ) → AreRespected
+        stand collection.bases.items → CoversAll table.now stand (statement_trees statements.now)) }
+{
+    let mut collection = Collection::new(alloc)?;
+    collect_all(alloc, table, &mut collection, statements)?;
+    Ok(collection)
+}
+
+/// Collects the sets of all statements.
+fn collect_all(
+    alloc: Global,
+    table: &PropTable,
+    collection: &mut Collection,
+    statements: &Statements,
+) -> Result<(), AllocError>
+    requires { IsCollection table.now collection.old }
+    ensures kept { OnOk result (IsCollection table.now collection.new) }
+    ensures covers { OnOk result ((stand : ℕ → ℕ) → AreRespected stand collection.new.bases.items
+        → CoversAll table.now stand (statement_trees statements.now)) }
+{
+    for number in 0..statements.len() {
+        collect_statement(alloc, table, collection, statements.get(number))?;
+    }
+    Ok(())
 }
 
 /// The sets of the properties that were looked up, by the classes of a layout, each made once.

@@ -19,7 +19,7 @@ const MOST_HEIGHT: u32 = 256;
 
 /// A sum over rules, up to the first rule with which it exceeds its limit, and the place of that
 /// rule.
-#[derive(Clone, Copy, Debug)]
+#[derive(Clone, Copy)]
 pub(crate) struct Count {
     pub(crate) sum: u32,
     passed: Option<u32>,
@@ -74,7 +74,7 @@ fn one_where(test: bool) -> u32
 }
 
 /// The counts of the active rules so far.
-#[derive(Clone, Copy, Debug)]
+#[derive(Clone, Copy)]
 pub(crate) struct Counts {
     rules: Count,
     pub(crate) leaves: Count,

@@ -5,7 +5,7 @@ ghost use Rattle.rbbi_classes.specs.Classes.{ClassBits};
 ghost use Rattle.rbbi_tree.specs.Trees.{placed, alternative, item as item_of, no_items};
 ghost use Rattle.rbbi_tree.specs.Trees.{no_alternatives};
 ghost use Rattle.rbbi_tree.specs.declared.syntax.Quant.TheVariants.{Once};
-ghost use Rattle.rbbi_tree.specs.Values.{expr_tree, atom_tree};
+ghost use Rattle.rbbi_tree.specs.Values.{expr_tree, atom_tree, statement_trees};
 ghost use Rattle.rbbi_resolve.specs.Meanings.{Meaning};
 ghost use Rattle.rbbi_resolve.specs.Expressions.{variable_for, variable_with, set_of_atom};
 ghost use Rattle.rbbi_resolve.specs.Expressions.{set_of_expr};
@@ -13,9 +13,10 @@ ghost use Rattle.rbbi_resolve.specs.Parts.{parts_of_expr};
 ghost use Rattle.rbbi_resolve.specs.inner.Faults.{noted_parts};
 ghost use Rattle.rbbi_resolve.specs.Contexts as contexts;
 ghost use Rattle.rbbi_resolve.specs.inner.Contexts.{IsContext, KnowsQuotes, IsKindOf, bounds_of};
-ghost use Rattle.rbbi_resolve.specs.inner.Contexts.{context_of, files_of, stand_of};
+ghost use Rattle.rbbi_resolve.specs.inner.Contexts.{context_of, files_of, stand_of, AddsRows};
+ghost use Rattle.rbbi_resolve.specs.inner.Contexts.{IsAssigned};
 ghost use Rattle.rbbi_resolve.specs.inner.Covered.{AreCovered};
-ghost use Rattle.rbbi_resolve.specs.inner.OwnLeaves.{AddsRows, leaves_of_expr, leaves_of_atom};
+ghost use Rattle.rbbi_resolve.specs.inner.OwnLeaves.{leaves_of_expr, leaves_of_atom};
 ghost use Rattle.rbbi_resolve.specs.inner.Summaries.{Summarizes};
 
 use crate::check::check_expr;
@@ -26,8 +27,8 @@ use crate::variables::{Kind, Summary};
 use rbbi_tree::{Atom, Expr, Item, Quant};
 use std::alloc::{AllocError, Global};
 
-/// Notes the faults of an assigned expression, adds its leaves, and returns the kind of variable
-/// that it defines.
+/// Notes the faults of the expression that the statement with the number `limit` assigns, adds its
+/// leaves, and returns the kind of variable that it defines.
 pub(crate) fn check_definition(
     alloc: Global,
     context: &Context,
@@ -39,13 +40,16 @@ pub(crate) fn check_definition(
     requires quotes { KnowsQuotes context.now }
     requires covered { AreCovered (files_of context.now) (stand_of context.now)
         (parts_of_expr (expr_tree expr.now)) }
+    requires assigned { IsAssigned (statement_trees context.now.statements.now) context.now.limit
+        (expr_tree expr.now) }
     ensures noted { OnOk result (least.new ≡ noted_parts (context_of context.now) least.old
         (parts_of_expr (expr_tree expr.now))) }
     ensures rows { OnOk result (AddsRows context.now
         (leaves_of_expr (context_of context.now) (expr_tree expr.now))
         leaves.old.rows.items leaves.new.rows.items) }
     ensures kind { IfOk result (λ kind. IsKindOf (files_of context.now) (bounds_of context.now)
-        kind (variable_for (context_of context.now) (expr_tree expr.now))) }
+        (statement_trees context.now.statements.now) kind
+        (variable_for (context_of context.now) (expr_tree expr.now))) }
 {
     let first = leaves.rows.len();
     let summary = check_expr(alloc, context, least, leaves, expr)?;
@@ -67,17 +71,24 @@ fn kind_of_atom(
     requires rows { (before : List (Option ClassBits)) × (first ≡ length before)
         × AddsRows context.now (leaves_of_atom (context_of context.now) (atom_tree atom.now))
         before leaves.now.rows.items }
+    requires assigned { (place : ℕ) × IsAssigned (statement_trees context.now.statements.now)
+        context.now.limit (alternative (item_of (placed place (atom_tree atom.now) Once) no_items)
+        no_alternatives) }
     ensures { IfOk result (λ kind. (meaning : Meaning) (height : ℕ)
         → Summarizes summary meaning height
-        → IsKindOf (files_of context.now) (bounds_of context.now) kind
+        → IsKindOf (files_of context.now) (bounds_of context.now)
+        (statement_trees context.now.statements.now) kind
         (variable_with (set_of_atom (context_of context.now) (atom_tree atom.now)) meaning
         height)) }
 {
     match atom {
-        Atom::Prop { .. } | Atom::Set(_) => Ok(Kind::Set(leaves.rows[first].clone()?)),
+        Atom::Prop { .. } | Atom::Set(_) => {
+            let value = leaves.rows[first].clone()?;
+            Ok(Kind::Set(value, context.limit))
+        }
         Atom::Name(name) => match context.variable(name) {
             Some(variable) => match &variable.kind {
-                Kind::Set(value) => Ok(Kind::Set(value.clone()?)),
+                Kind::Set(value, writer) => Ok(Kind::Set(value.clone()?, *writer)),
                 Kind::Expression(_) => Ok(Kind::Expression(summary)),
             },
             None => Ok(Kind::Expression(summary)),

@@ -13,7 +13,7 @@ use std::alloc::{AllocError, Global};
 use std::rc::Rc;
 
 /// A set of ranges, and the same set by classes.
-#[derive(Debug, Drop)]
+#[derive(Drop)]
 pub(crate) struct Divided {
     set: Rc<Option<CodeSet>>,
     classes: Rc<Option<ClassSet>>,

@@ -3,7 +3,7 @@ ghost use Rattle.std.specs.Prelude.{◌≡◌};
 ghost use Rattle.rbbi_resolve.specs.Faults.{rank, noted_one, noted, comes_before, faults_where};
 
 /// The kinds of faults, in the order in which they are reported where several stand at one place.
-#[derive(Clone, Copy, Debug)]
+#[derive(Clone, Copy)]
 pub enum FaultKind {
     UnknownControl,
     UnsupportedControl,
@@ -25,7 +25,7 @@ pub enum FaultKind {
 }
 
 /// A fault of a rule file. Its place is in characters from 0.
-#[derive(Clone, Copy, Debug)]
+#[derive(Clone, Copy)]
 pub struct Fault {
     pub place: u32,
     pub kind: FaultKind,

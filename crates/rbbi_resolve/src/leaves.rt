@@ -2,9 +2,8 @@
 ghost use Rattle.std.specs.Prelude.{◌≡◌, OnOk, Some, [], ◌∷◌, ◌++◌, map};
 ghost use Rattle.std.specs.List.{AllByRecursion};
 ghost use Rattle.rbbi_model.specs.SetTrees as model;
-ghost use Rattle.rbbi_resolve.specs.inner.Contexts.{IsContext, files_of, stand_of};
+ghost use Rattle.rbbi_resolve.specs.inner.Contexts.{IsContext, files_of, stand_of, AddsRows};
 ghost use Rattle.rbbi_resolve.specs.inner.Covered.{Respects};
-ghost use Rattle.rbbi_resolve.specs.inner.OwnLeaves.{AddsRows};
 
 use crate::context::Context;
 use rbbi_classes::{ClassSet, ClassShelf};

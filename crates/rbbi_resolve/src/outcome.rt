@@ -44,14 +44,29 @@ pub fn resolve(
         IsRefusedFor props.now ignore_dictionary (statement_trees statements.now) end refusal) }
 {
     let reading = read_all(alloc, statements, props, ignore_dictionary)?;
+    rules_or_fault(alloc, &reading, end)
+}
+
+/// The rules of a file that was read, or its first fault.
+fn rules_or_fault(alloc: Global, reading: &Reading, end: u32) -> Result<Rules, ResolveErr>
+    requires reading { IsReading reading.now (length reading.now.statements.now) }
+    requires leaves { HasLeaves reading.now (length reading.now.statements.now) }
+    requires well_made { AreWellMade (statement_trees reading.now.statements.now) }
+    ensures means { IfOk result (λ rules. Means reading.now.table.now
+        reading.now.dictionary_ignored (statement_trees reading.now.statements.now)
+        (rules_of rules)) }
+    ensures lawful { IfOk result (λ rules. AreLawful (rules_of rules)) }
+    ensures refused { IfErr result (λ refusal. IsRefusedFor reading.now.table.now
+        reading.now.dictionary_ignored (statement_trees reading.now.statements.now) end
+        refusal) }
+{
     if let Some(fault) = reading.least {
         return Err(refusal(fault));
     }
     if let Some(fault) = reading.counts.fault(end) {
         return Err(refusal(fault));
     }
-    let rules = build_rules(alloc, reading)?;
-    Ok(rules)
+    Ok(build_rules(alloc, reading)?)
 }
 
 /// Reads all statements.

@@ -16,7 +16,7 @@ use std::alloc::{AllocError, Global};
 use std::rc::Rc;
 
 /// A property that was asked for, and what was found.
-#[derive(Debug, Drop)]
+#[derive(Drop)]
 pub(crate) struct Answer {
     pub(crate) question: Rc<Question>,
     pub(crate) set: Rc<Option<CodeSet>>,

@@ -10,7 +10,7 @@ use std::alloc::{AllocError, Global};
 const FIRST_ROOM: usize = 48;
 
 /// A property that is asked for, as it was spelled the first time.
-#[derive(Debug, Drop)]
+#[derive(Drop)]
 pub(crate) struct Question {
     pub(crate) negated: bool,
     pub(crate) name: String,

@@ -5,9 +5,9 @@ ghost use Rattle.rbbi_resolve.specs.Parts.{parts_of_expr};
 ghost use Rattle.rbbi_resolve.specs.Faults.{noted, faults_of_parts};
 ghost use Rattle.rbbi_resolve.specs.Files.{faults_of_rest, faults_at_slash};
 ghost use Rattle.rbbi_resolve.specs.inner.Contexts.{IsContext, KnowsQuotes, files_of, stand_of};
-ghost use Rattle.rbbi_resolve.specs.inner.Contexts.{context_of};
+ghost use Rattle.rbbi_resolve.specs.inner.Contexts.{context_of, AddsRows};
 ghost use Rattle.rbbi_resolve.specs.inner.Covered.{AreCovered, parts_of_rest};
-ghost use Rattle.rbbi_resolve.specs.inner.OwnLeaves.{AddsRows, leaves_of_expr, leaves_of_rest};
+ghost use Rattle.rbbi_resolve.specs.inner.OwnLeaves.{leaves_of_expr, leaves_of_rest};
 ghost use Rattle.rbbi_resolve.specs.inner.RuleSums.{AreSumsOf, faults_where_empty};
 
 use crate::check::check_expr;

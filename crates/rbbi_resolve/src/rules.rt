@@ -13,7 +13,10 @@ use std::marker::Model;
 use std::rc::Rc;
 
 /// What a rule matches, with its variables replaced.
-#[derive(Debug, Drop)]
+///
+/// A tree is at most as high as its rule, so it has at most 257 levels, and a walk over it opens no
+/// more.
+#[derive(Drop)]
 #[cycle(tree)]
 pub enum Tree {
     /// One character of the set with this number in the list of sets.
@@ -27,14 +30,14 @@ pub enum Tree {
 }
 
 /// Parts of a sequence or a choice, from first to last.
-#[derive(Debug, Drop)]
+#[derive(Drop)]
 #[cycle(tree)]
 pub struct Trees {
     pub items: Vec<Tree>,
 }
 
 /// An active rule of a rule file.
-#[derive(Debug, Drop)]
+#[derive(Drop)]
 pub struct Rule {
     /// What it matches, up to the `/` if there is one.
     pub front: Tree,
@@ -49,7 +52,7 @@ pub struct Rule {
 }
 
 /// The sets of the leaves of rules. Contracts see it as the list of their lists of ranges.
-#[derive(Debug, Drop)]
+#[derive(Drop)]
 pub struct SetList {
     /// The partition of the code points of which each set has some classes.
     division: Rc<Division>,
@@ -101,7 +104,7 @@ impl SetList {
 /// The active rules of a rule file in their order, with the sets of their leaves, and the counts of
 /// leaves and of rules with a rest. Contracts see the rules and the sets; `rules_of` gives the list
 /// of rules that they stand for.
-#[derive(Debug, Drop)]
+#[derive(Drop)]
 pub struct Rules {
     rules: Vec<Rule>,
     sets: SetList,

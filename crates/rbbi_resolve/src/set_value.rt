@@ -29,8 +29,8 @@ use std::alloc::{AllocError, Global};
 
 /// Finds the value of a set, if each part of it has one. Notes the faults of its parts.
 ///
-/// Values are passed by reference, and what finds the value of a part isn't inlined, so
-/// that the frames of this walk stay small: it goes as deep as brackets are open.
+/// At most 64 brackets are open, so at most 64 sets are, each in two calls. Values are passed by
+/// reference, and what finds the value of a part isn't inlined, so that the frames stay small.
 #[cycle(sets)]
 pub(crate) fn find_set(
     alloc: Global,
@@ -150,7 +150,7 @@ fn find_variable(
 {
     match context.variable(name) {
         Some(variable) => match &variable.kind {
-            Kind::Set(set) => {
+            Kind::Set(set, _) => {
                 *value = set.clone()?;
                 Ok(())
             }

@@ -12,7 +12,7 @@ pub(crate) const TALL: u32 = 257;
 
 /// What is kept of an expression: its number of leaves, at most `MANY_LEAVES`; its height, at most
 /// `TALL`; and whether it spells the empty word.
-#[derive(Clone, Copy, Debug)]
+#[derive(Clone, Copy)]
 pub(crate) struct Summary {
     pub(crate) leaves: u32,
     pub(crate) height: u32,
@@ -22,16 +22,17 @@ pub(crate) struct Summary {
 }
 
 /// What a variable stands for.
-#[derive(Debug, Drop)]
+#[derive(Drop)]
 pub(crate) enum Kind {
-    /// A set; None if it has no value, since a variable or a part in it is faulty.
-    Set(Option<ClassSet>),
+    /// A set: its value, None where a variable or a part in it is faulty; and the number of the
+    /// statement that writes it, where the others of a chain of names say the next name alone.
+    Set(Option<ClassSet>, usize),
     /// An expression that is no set.
     Expression(Summary),
 }
 
 /// A variable, with the number of the statement that assigns it first.
-#[derive(Debug, Drop)]
+#[derive(Drop)]
 pub(crate) struct Variable {
     pub(crate) statement: usize,
     pub(crate) kind: Kind,

@@ -1,7 +1,9 @@
 pub mod Columns
 pub mod Decoding
+pub mod Fed
 pub mod Fills
 pub mod Leading
+pub mod Shifting
 pub mod Spelling
 pub mod Standing
 pub mod Statuses

@@ -1,6 +1,7 @@
 pub mod Breaks
 pub mod Columns
 pub mod Decoded
+pub mod Feeding
 pub mod Filling
 pub mod Giving
 pub mod Greatest
@@ -8,4 +9,5 @@ pub mod Leading
 pub mod Scanning
 pub mod Segments
 pub mod Spelled
+pub mod Stops
 pub mod Windows

@@ -8,6 +8,7 @@ mod breaks;
 mod filling;
 mod greatest;
 mod reached;
+mod scanner;
 mod scanning;
 mod source;
 mod utf16;
@@ -16,3 +17,4 @@ mod window;
 
 pub use breaks::{breaks_utf8, breaks_utf16, words_utf8, words_utf16};
 pub use reached::{Reached, Stop};
+pub use scanner::Scanner;

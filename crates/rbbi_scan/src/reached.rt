@@ -1,7 +1,7 @@
 //! How far the boundaries of a text were given.
 
 /// Why no more boundaries were given.
-#[derive(Clone, Copy, Debug, PartialEq, Eq)]
+#[derive(Clone, Copy, PartialEq, Eq)]
 pub enum Stop {
     /// The text ends there.
     End,
@@ -27,7 +27,7 @@ pub(crate) struct Asked {
 }
 
 /// How far the boundaries of a text were given.
-#[derive(Clone, Copy, Debug, PartialEq, Eq)]
+#[derive(Clone, Copy, PartialEq, Eq)]
 pub struct Reached {
     /// How many were written.
     pub count: usize,

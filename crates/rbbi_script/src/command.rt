@@ -3,7 +3,7 @@ use rbbi_text::{Values, Word};
 
 /// A command: a question, an edit, or a request for the text. Numbers count the unit of the session
 /// that performs it, places from 0.
-#[derive(Debug, Drop)]
+#[derive(Drop)]
 pub enum Command {
     /// To the first boundary.
     First,

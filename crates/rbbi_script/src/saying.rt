@@ -8,7 +8,7 @@ use rbbi_text::{append, append_number};
 use std::alloc::AllocError;
 
 /// A reply of one line.
-#[derive(Debug, Drop)]
+#[derive(Drop)]
 pub enum Said {
     /// The place.
     Place(u32),

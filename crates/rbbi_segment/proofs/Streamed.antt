@@ -189,7 +189,7 @@ module _ {V : Type 0} (takes : V → Option (List ℕ) → List ℕ → Segment 
     pub streamed_last : (ends : V → Option (List ℕ) → Option (List ℕ) → Type 0) (later : Progress) (next : V) (then after : Option (List ℕ)) (is_whole : Bool)
         → waiting ≡ [] → IsAtEnd left → length window ≤ later.at
         → HandsOn takes pauses unit f table window is_whole progress receiver now later next then → ends next then after
-        → (x : List ℕ) × IsTextGiven is_lossy held x × IsText x × TakesAll takes pauses ends x (segments unit f table x) first before after
+        → (x : List ℕ) × IsTextGiven is_lossy held x left × IsText x × TakesAll takes pauses ends x (segments unit f table x) first before after
     streamed_last ends later next then after is_whole none end all on ended =
         let x : List ℕ = so_far.y ++ [] in
         let whole : x ≡ text_in is_lossy so_far.bytes =
@@ -200,7 +200,7 @@ module _ {V : Type 0} (takes : V → Option (List ℕ) → List ℕ → Segment 
         let within = so_far.within in
         omega (arith, all, within, ap length so_far.last, length-drop so_far.base so_far.y, ap length (append-nil so_far.y)) in (
           x,
-          (so_far.bytes, Consumes-all held left so_far.bytes [] so_far.bytes so_far.consumed end refl, whole),
+          (so_far.bytes, so_far.consumed, end, whole),
           subst IsText (sym (append-nil so_far.y)) so_far.text,
           record {
             last = next;

@@ -9,7 +9,7 @@ use Rattle.rbbi_filter.specs.Filters as by
 use Rattle.rbbi_filter.specs.declared.filter.Filter.{Filter}
 use Rattle.rbbi_filter.specs.declared.filter.Filter.TheVariants.{Suppressing, Turning}
 use Rattle.rbbi_filter.specs.declared.pair.Pair.{Pair}
-use Rattle.rbbi_segment.specs.Contents.{IsHeld}
+use Rattle.rbbi_segment.specs.Contents.{IsRead}
 use Rattle.rbbi_segment.specs.declared.options.Filtering.{Filtering}
 use Rattle.rbbi_segment.specs.declared.options.Filtering.TheVariants.{Nothing, Language, Abbreviations, Pairs}
 
@@ -28,9 +28,13 @@ abbrev pub reports : Option Filter → List ℕ → ℕ → Bool
 reports None x at = true
 reports (Some filter) x at = by.reports filter x at
 
+-- the boundaries of the text through the filter, where `breaks` are those of a text
+abbrev pub through : Option Filter → (List ℕ → List Boundary) → List ℕ → List Boundary
+through filter breaks x = reported filter x (breaks (searched filter x))
+
 -- the boundaries of the text by the table, through the filter
 abbrev pub boundaries_through : Option Filter → Table → List ℕ → List Boundary
-boundaries_through filter table x = reported filter x (table_boundaries table (searched filter x))
+boundaries_through filter table x = through filter (table_boundaries table) x
 
 -- the filter suppresses boundaries after the abbreviations that the bytes list
 abbrev pub IsListed : List ℕ → Option Filter → Type 0
@@ -40,9 +44,10 @@ IsListed bytes filter = (list : List (List ℕ)) × ReadsAbbreviations bytes (Ok
 abbrev pub IsPaired : List ℕ → Option Filter → Type 0
 IsPaired bytes filter = (pairs : List Pair) × ReadsPairs bytes (Ok pairs) × (filter ≡ Some (Turning pairs))
 
--- The filter is the one that is asked for. Of the abbreviations that are built in it says that they are some.
-abbrev pub IsFilterOf : Option (List ℕ → List ℕ) → Filtering → Option Filter → Type 0
-IsFilterOf contents Nothing filter = filter ≡ None
-IsFilterOf contents (Language language) filter = (bytes : List ℕ) × IsListed bytes filter
-IsFilterOf contents (Abbreviations name) filter = (bytes : List ℕ) × IsHeld contents name.now bytes × IsListed bytes filter
-IsFilterOf contents (Pairs name) filter = (bytes : List ℕ) × IsHeld contents name.now bytes × IsPaired bytes filter
+-- The filter is the one that is asked for, whose file was read. Of the abbreviations that are built in it says that they are some. `left` is
+-- what standard input then has.
+abbrev pub IsFilterOf : Option (List ℕ → List ℕ) → Option (List ℕ) → Filtering → Option Filter → Option (List ℕ) → Type 0
+IsFilterOf contents input Nothing filter left = (filter ≡ None) × (left ≡ input)
+IsFilterOf contents input (Language language) filter left = ((bytes : List ℕ) × IsListed bytes filter) × (left ≡ input)
+IsFilterOf contents input (Abbreviations name) filter left = (bytes : List ℕ) × IsRead contents input name.now bytes left × IsListed bytes filter
+IsFilterOf contents input (Pairs name) filter left = (bytes : List ℕ) × IsRead contents input name.now bytes left × IsPaired bytes filter

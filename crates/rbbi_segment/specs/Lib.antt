@@ -9,4 +9,6 @@ pub mod Spelled
 pub mod Windows
 pub mod Headings
 pub mod RuleFiles
-pub mod Annexes
+pub mod Statuses
+pub mod Tables
+pub mod Runs

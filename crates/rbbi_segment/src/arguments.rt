@@ -3,14 +3,14 @@
 use crate::abbreviations::Language;
 use crate::colors::When;
 use crate::escapes::append_name;
-use crate::failure::{Failure, IS_REFUSED};
+use crate::failure::{Failure, Status};
 use crate::only::{Statuses, Wanted};
 use crate::options::{Asked, Basis, Filtering, Format, Layout, Mark, Property, Request, Task};
 use clap::error::ErrorKind;
 use clap::{Arg, ArgAction, ArgMatches, Command, Error};
 use rbbi_segment_tables::Kind;
-use rbbi_text::{Unit, append, decimal};
-use std::alloc::{AllocError, Global};
+use rbbi_text::{Unit, decimal};
+use std::alloc::{AllocError, AllocFailed, Global};
 
 const VERSION: &str = "1.0, with tables of Unicode 18.0";
 
@@ -69,6 +69,26 @@ const NO_RULES: &[u8] =
 const ONE_FILE: &[u8] = b"error: --explain takes one file\n";
 
 const BAD_PLACE: &[u8] = b"error: --explain takes a place, which is a number, as 100\n";
+
+/// Why arguments ask for nothing.
+#[derive(Clone, Copy)]
+enum Refusal {
+    /// They are wrong, as the line says.
+    Wrong(&'static [u8]),
+    Memory,
+}
+
+impl From<AllocError> for Refusal {
+    fn from(_error: AllocError) -> Refusal {
+        Refusal::Memory
+    }
+}
+
+impl<T: Drop> From<AllocFailed<T>> for Refusal {
+    fn from(_error: AllocFailed<T>) -> Refusal {
+        Refusal::Memory
+    }
+}
 
 /// What an option takes.
 #[derive(Clone, Copy)]
@@ -281,6 +301,11 @@ static OPTIONS: [Described; 22] = [
     },
 ];
 
+/// All options.
+fn options() -> &'static [Described] {
+    &OPTIONS
+}
+
 /// The option that is described.
 fn option_of<'a>(alloc: Global, described: &Described) -> Result<Arg<'a>, AllocError> {
     let mut arg = Arg::new(alloc, described.name)
@@ -305,22 +330,39 @@ fn option_of<'a>(alloc: Global, described: &Described) -> Result<Arg<'a>, AllocE
     })
 }
 
-/// The command line of the program.
-fn command<'a>(alloc: Global) -> Result<Command<'a>, AllocError> {
-    let file = Arg::new(alloc, "file")
+/// The argument that names the texts.
+fn file_argument<'a>(alloc: Global) -> Arg<'a> {
+    Arg::new(alloc, "file")
         .value_name("FILE")
         .num_args(1..)
         .action(ArgAction::Append)
-        .help("The texts; standard input if one is -, or none is given");
-    let mut command = Command::new(alloc, "segment")
+        .help("The texts; standard input if one is -, or none is given")
+}
+
+/// The command line of the program, with no arguments.
+fn bare_command<'a>(alloc: Global) -> Command<'a> {
+    Command::new(alloc, "segment")
         .no_binary_name(true)
         .version(VERSION)
         .about(ABOUT)
         .long_about(LONG_ABOUT)
         .after_long_help(AFTER_HELP)
-        .arg(file)?;
-    for described in OPTIONS.iter() {
-        command = command.arg(option_of(alloc, described)?)?;
+}
+
+/// The command line with an option more.
+fn with_option<'a>(
+    alloc: Global,
+    command: Command<'a>,
+    described: &Described,
+) -> Result<Command<'a>, AllocError> {
+    command.arg(option_of(alloc, described)?)
+}
+
+/// The command line of the program.
+fn command<'a>(alloc: Global) -> Result<Command<'a>, AllocError> {
+    let mut command = bare_command(alloc).arg(file_argument(alloc))?;
+    for described in options() {
+        command = with_option(alloc, command, described)?;
     }
     Ok(command)
 }
@@ -330,48 +372,59 @@ fn parsed<'a>(alloc: Global, words: &'a Vec<String>) -> Result<ArgMatches<'a>, E
     command(alloc)?.try_get_matches_from(words.as_slice())
 }
 
+/// The word with hidden characters as escapes.
+fn escaped_word(alloc: Global, word: &str) -> Result<String, AllocError> {
+    let mut bytes = Vec::new(alloc);
+    append_name(word, &mut bytes)?;
+    String::from_utf8_lossy(alloc, &bytes)
+}
+
 /// The words with hidden characters as escapes.
 fn escaped(alloc: Global, words: &Vec<String>) -> Result<Vec<String>, AllocError> {
     let mut all = Vec::new(alloc);
     for word in words {
-        let mut bytes = Vec::new(alloc);
-        append_name(word.as_str(), &mut bytes)?;
-        all.push(String::from_utf8_lossy(alloc, &bytes)?)?;
+        all.push(escaped_word(alloc, word.as_str())?)?;
     }
     Ok(all)
 }
 
-/// The failure that the error of a parse is.
-fn failure_of(alloc: Global, error: &Error) -> Result<Failure, AllocError> {
+/// What the arguments say.
+#[derive(Drop)]
+pub(crate) enum Meaning<'a> {
+    /// What they ask for.
+    Asks(Request<'a>),
+    /// Help or the version is asked for: what goes to the standard output.
+    Shows(Vec<u8>),
+    /// They ask for nothing.
+    Fails(Failure),
+}
+
+/// What words say that have this error.
+fn meaning_of<'a>(alloc: Global, error: &Error) -> Result<Meaning<'a>, AllocError> {
     if error.kind() == ErrorKind::OutOfMemory {
-        return Ok(Failure::Memory);
+        return Ok(Meaning::Fails(Failure::Memory));
     }
     let text = format!(in alloc; "{error}")?;
     let bytes = text.as_bytes().to_vec(alloc)?;
-    if error.use_stderr() {
-        Ok(Failure::Told(IS_REFUSED, bytes))
+    Ok(if error.use_stderr() {
+        Meaning::Fails(Failure::Told(Status::IsRefused, bytes))
     } else {
-        Ok(Failure::Shown(bytes))
-    }
+        Meaning::Shows(bytes)
+    })
 }
 
-/// The failure that words have this error. Its message shows hidden characters of the words as
-/// escapes: it is that of the words with escapes in their place, which have the same error, since
-/// no name or value of an option has a hidden character.
-fn refused(alloc: Global, words: &Vec<String>, error: &Error) -> Result<Failure, AllocError> {
+/// What words say that have this error. A message shows hidden characters of the words as escapes:
+/// it is that of the words with escapes in their place, which have the same error, since no name or
+/// value of an option has a hidden character.
+fn refused<'a>(
+    alloc: Global,
+    words: &Vec<String>,
+    error: &Error,
+) -> Result<Meaning<'a>, AllocError> {
     let escaped = escaped(alloc, words)?;
     match parsed(alloc, &escaped) {
-        Ok(_) => failure_of(alloc, error),
-        Err(error) => failure_of(alloc, &error),
-    }
-}
-
-/// The failure that an option's value is invalid.
-fn bad_value(alloc: Global, message: &[u8]) -> Failure {
-    let mut text = Vec::new(alloc);
-    match append(message, &mut text) {
-        Ok(()) => Failure::Told(IS_REFUSED, text),
-        Err(_) => Failure::Memory,
+        Ok(_) => meaning_of(alloc, error),
+        Err(error) => meaning_of(alloc, &error),
     }
 }
 
@@ -388,40 +441,49 @@ fn kind_of(matches: &ArgMatches<'_>) -> Kind {
 }
 
 /// The mark of the format with marks.
-fn mark_of<'a>(alloc: Global, matches: &ArgMatches<'a>) -> Result<Mark<'a>, Failure> {
+fn mark_of<'a>(matches: &ArgMatches<'a>) -> Result<Mark<'a>, Refusal> {
     let text = matches.get_str("mark").unwrap_or("|");
     match text.chars().next() {
         Some(first) if first != '\\' => Ok(Mark { text, first }),
-        _ => Err(bad_value(alloc, BAD_MARK)),
+        _ => Err(Refusal::Wrong(BAD_MARK)),
     }
 }
 
 /// How many columns a line has at most in the format of lines. The options that choose what is
 /// printed, and by which built-in table, don't go with it.
-fn width_of(alloc: Global, matches: &ArgMatches<'_>) -> Result<u32, Failure> {
+fn width_of(matches: &ArgMatches<'_>) -> Result<u32, Refusal> {
     if !matches!(matches.get_str("by"), None | Some("line")) {
-        return Err(bad_value(alloc, LINES_ARE_LINES));
+        return Err(Refusal::Wrong(LINES_ARE_LINES));
     }
     if matches.get_str("only").is_some() || matches.get_flag("only-words") {
-        return Err(bad_value(alloc, LINES_ARE_WHOLE));
+        return Err(Refusal::Wrong(LINES_ARE_WHOLE));
     }
-    match decimal(
-        matches.get_str("width").unwrap_or("72").as_bytes(),
-        u32::MAX,
-    ) {
+    let width = matches.get_str("width").unwrap_or("72");
+    match decimal(width.as_bytes(), u32::MAX) {
         Some(width) if width > 0 => Ok(width),
-        _ => Err(bad_value(alloc, BAD_WIDTH)),
+        _ => Err(Refusal::Wrong(BAD_WIDTH)),
     }
 }
 
-/// The format, with its mark or its width, which go with no other.
-fn format_of<'a>(alloc: Global, matches: &ArgMatches<'a>) -> Result<Format<'a>, Failure> {
+/// The format of this name, with its mark or its width.
+fn format_named<'a>(name: Option<&str>, matches: &ArgMatches<'a>) -> Result<Format<'a>, Refusal> {
+    Ok(match name {
+        Some("marked") => Format::Marked(mark_of(matches)?),
+        Some("lines") => Format::Lines(width_of(matches)?),
+        Some("json") => Format::Each(Layout::Json),
+        Some("plain") => Format::Each(Layout::Plain),
+        _ => Format::Each(Layout::Text),
+    })
+}
+
+/// The format. A mark and a width go with no other than theirs.
+fn format_of<'a>(matches: &ArgMatches<'a>) -> Result<Format<'a>, Refusal> {
     let name = matches.get_str("format");
     if matches.get_str("mark").is_some() && name != Some("marked") {
-        return Err(bad_value(alloc, NEEDS_MARKED));
+        return Err(Refusal::Wrong(NEEDS_MARKED));
     }
     if matches.get_str("width").is_some() && name != Some("lines") {
-        return Err(bad_value(alloc, NEEDS_LINES));
+        return Err(Refusal::Wrong(NEEDS_LINES));
     }
     if matches.get_flag("count") {
         return Ok(Format::Count);
@@ -429,13 +491,7 @@ fn format_of<'a>(alloc: Global, matches: &ArgMatches<'a>) -> Result<Format<'a>, 
     if matches.get_flag("null") {
         return Ok(Format::Each(Layout::Null));
     }
-    Ok(match name {
-        Some("marked") => Format::Marked(mark_of(alloc, matches)?),
-        Some("lines") => Format::Lines(width_of(alloc, matches)?),
-        Some("json") => Format::Each(Layout::Json),
-        Some("plain") => Format::Each(Layout::Plain),
-        _ => Format::Each(Layout::Text),
-    })
+    format_named(name, matches)
 }
 
 fn unit_of(matches: &ArgMatches<'_>) -> Unit {
@@ -454,20 +510,23 @@ fn color_of(matches: &ArgMatches<'_>) -> When {
     }
 }
 
-/// The names of the texts. One may come right after `--explain`, since it is no number.
-fn names_of<'a>(alloc: Global, matches: &ArgMatches<'a>) -> Result<Vec<&'a str>, Failure> {
+/// The name of the text where none is given as such. One may come right after `--explain`, since it
+/// is no number.
+fn lone_name<'a>(matches: &ArgMatches<'a>) -> &'a str {
+    match matches.get_str("explain") {
+        Some(file) if !file.is_empty() && place_of(file).is_none() => file,
+        _ => "-",
+    }
+}
+
+/// The names of the texts.
+fn names_of<'a>(alloc: Global, matches: &ArgMatches<'a>) -> Result<Vec<&'a str>, AllocError> {
     let mut names = Vec::new(alloc);
     for name in matches.get_strs("file").unwrap_or(&[]) {
         names.push(*name)?;
     }
     if names.is_empty() {
-        names.push(match matches.get_str("explain") {
-            Some(file) if !file.is_empty() && place_of(file).is_none() => file,
-            _ => "-",
-        })?;
-    }
-    if names.len() > 1 && matches.get_str("explain").is_some() {
-        return Err(bad_value(alloc, ONE_FILE));
+        names.push(lone_name(matches))?;
     }
     Ok(names)
 }
@@ -478,32 +537,31 @@ fn place_of(text: &str) -> Option<u32> {
 }
 
 /// What is to be explained.
-fn explain_of(
-    alloc: Global,
-    matches: &ArgMatches<'_>,
-    basis: Basis<'_>,
-) -> Result<Option<Asked>, Failure> {
+fn explain_of(matches: &ArgMatches<'_>, basis: Basis<'_>) -> Result<Option<Asked>, Refusal> {
     let Some(value) = matches.get_str("explain") else {
         return Ok(None);
     };
     let Basis::Rules(_) = basis else {
-        return Err(bad_value(alloc, NO_RULES));
+        return Err(Refusal::Wrong(NO_RULES));
     };
+    if matches.get_strs("file").unwrap_or(&[]).len() > 1 {
+        return Err(Refusal::Wrong(ONE_FILE));
+    }
     match place_of(value) {
         Some(place) => Ok(Some(Asked::At(place))),
         None if value.is_empty() || !matches.contains_id("file") => Ok(Some(Asked::All)),
-        None => Err(bad_value(alloc, BAD_PLACE)),
+        None => Err(Refusal::Wrong(BAD_PLACE)),
     }
 }
 
 /// The line whose rules are asked for, which goes with `--lint`.
-fn line_of(alloc: Global, matches: &ArgMatches<'_>) -> Result<Option<u32>, Failure> {
+fn line_of(matches: &ArgMatches<'_>) -> Result<Option<u32>, Refusal> {
     let Some(text) = matches.get_str("why") else {
         return Ok(None);
     };
     match decimal(text.as_bytes(), u32::MAX) {
         Some(line) if line > 0 && matches.get_str("lint").is_some() => Ok(Some(line)),
-        _ => Err(bad_value(alloc, BAD_LINE)),
+        _ => Err(Refusal::Wrong(BAD_LINE)),
     }
 }
 
@@ -534,37 +592,42 @@ fn is_property_name(name: &str) -> bool {
             || matches!(*byte, b' ' | b'_' | b'-'))
 }
 
-/// The property files, each separated from its name at the first `=`.
+/// The property file that a value gives, separated from its name at the first `=`.
+fn property_of(given: &str) -> Result<Property<'_>, Refusal> {
+    match given.split_once('=') {
+        Some((name, file)) if is_property_name(name) && !file.is_empty() => {
+            Ok(Property { name, file })
+        }
+        _ => Err(Refusal::Wrong(BAD_PROPERTY)),
+    }
+}
+
+/// The property files.
 fn properties_of<'a>(
     alloc: Global,
     matches: &ArgMatches<'a>,
-) -> Result<Vec<Property<'a>>, Failure> {
+) -> Result<Vec<Property<'a>>, Refusal> {
     let mut properties = Vec::new(alloc);
     for given in matches.get_strs("prop").unwrap_or(&[]) {
-        match given.split_once('=') {
-            Some((name, file)) if is_property_name(name) && !file.is_empty() => {
-                properties.push(Property { name, file })?
-            }
-            _ => return Err(bad_value(alloc, BAD_PROPERTY)),
-        }
+        properties.push(property_of(given)?)?;
     }
     Ok(properties)
 }
 
-fn statuses_of(alloc: Global, matches: &ArgMatches<'_>) -> Result<Statuses, Failure> {
+fn statuses_of(matches: &ArgMatches<'_>) -> Result<Statuses, Refusal> {
     let Some(text) = matches.get_str("only") else {
         return Ok(Statuses::ALL);
     };
     match Statuses::of(text) {
         Some(statuses) if statuses.least <= statuses.greatest => Ok(statuses),
-        Some(_) => Err(bad_value(alloc, REVERSED_RANGE)),
-        None => Err(bad_value(alloc, BAD_STATUS)),
+        Some(_) => Err(Refusal::Wrong(REVERSED_RANGE)),
+        None => Err(Refusal::Wrong(BAD_STATUS)),
     }
 }
 
-fn wanted_of(alloc: Global, matches: &ArgMatches<'_>) -> Result<Wanted, Failure> {
+fn wanted_of(matches: &ArgMatches<'_>) -> Result<Wanted, Refusal> {
     Ok(Wanted {
-        statuses: statuses_of(alloc, matches)?,
+        statuses: statuses_of(matches)?,
         only_words: matches.get_flag("only-words"),
     })
 }
@@ -583,38 +646,91 @@ fn filtering_of<'a>(matches: &ArgMatches<'a>) -> Filtering<'a> {
     }
 }
 
-/// What the arguments ask for.
-pub(crate) fn request_of<'a>(
-    alloc: Global,
-    words: &'a Vec<String>,
-) -> Result<Request<'a>, Failure> {
-    let matches = match parsed(alloc, words) {
-        Ok(matches) => matches,
-        Err(error) => return Err(refused(alloc, words, &error)?),
-    };
-    let (task, basis) = task_of(&matches, line_of(alloc, &matches)?);
-    let properties = properties_of(alloc, &matches)?;
-    let ignore_dictionary = matches.get_flag("ignore-dictionary");
+/// What is asked for beside the files.
+#[derive(Clone, Copy)]
+struct Choices<'a> {
+    task: Task<'a>,
+    basis: Basis<'a>,
+    format: Format<'a>,
+    wanted: Wanted,
+    explain: Option<Asked>,
+}
+
+/// Whether options are given that are about rules alone.
+fn is_about_rules(matches: &ArgMatches<'_>) -> bool {
+    matches.get_flag("ignore-dictionary") || !matches.get_strs("prop").unwrap_or(&[]).is_empty()
+}
+
+/// What is asked for beside the files.
+fn choices_of<'a>(matches: &ArgMatches<'a>) -> Result<Choices<'a>, Refusal> {
+    let (task, basis) = task_of(matches, line_of(matches)?);
     if let Basis::BuiltIn(_) = basis
-        && (ignore_dictionary || !properties.is_empty())
+        && is_about_rules(matches)
     {
-        return Err(bad_value(alloc, NEEDS_RULES));
+        return Err(Refusal::Wrong(NEEDS_RULES));
     }
-    let names = names_of(alloc, &matches)?;
+    Ok(Choices {
+        task,
+        basis,
+        format: format_of(matches)?,
+        wanted: wanted_of(matches)?,
+        explain: explain_of(matches, basis)?,
+    })
+}
+
+/// What is asked for of the files that are given.
+fn request_of<'a>(
+    alloc: Global,
+    matches: &ArgMatches<'a>,
+    choices: Choices<'a>,
+) -> Result<Request<'a>, Refusal> {
+    let properties = properties_of(alloc, matches)?;
+    let names = names_of(alloc, matches)?;
     let has_headings = names.len() > 1 && !matches.get_flag("no-filename");
     Ok(Request {
-        task,
+        task: choices.task,
         names,
         has_headings,
-        basis,
+        basis: choices.basis,
         properties,
-        ignore_dictionary,
-        filtering: filtering_of(&matches),
-        format: format_of(alloc, &matches)?,
-        unit: unit_of(&matches),
-        wanted: wanted_of(alloc, &matches)?,
+        ignore_dictionary: matches.get_flag("ignore-dictionary"),
+        filtering: filtering_of(matches),
+        format: choices.format,
+        unit: unit_of(matches),
+        wanted: choices.wanted,
         is_lossy: matches.get_flag("lossy"),
-        explain: explain_of(alloc, &matches, basis)?,
-        color: color_of(&matches),
+        explain: choices.explain,
+        color: color_of(matches),
     })
+}
+
+/// What matches say.
+fn asked_for<'a>(alloc: Global, matches: &ArgMatches<'a>) -> Result<Meaning<'a>, Refusal> {
+    let choices = choices_of(matches)?;
+    Ok(Meaning::Asks(request_of(alloc, matches, choices)?))
+}
+
+/// What arguments say that are refused.
+fn fails<'a>(alloc: Global, refusal: Refusal) -> Meaning<'a> {
+    match refusal {
+        Refusal::Wrong(line) => match line.to_vec(alloc) {
+            Ok(line) => Meaning::Fails(Failure::Told(Status::IsRefused, line)),
+            Err(_) => Meaning::Fails(Failure::Memory),
+        },
+        Refusal::Memory => Meaning::Fails(Failure::Memory),
+    }
+}
+
+/// What the arguments say.
+pub(crate) fn parse<'a>(alloc: Global, words: &'a Vec<String>) -> Meaning<'a> {
+    match parsed(alloc, words) {
+        Ok(matches) => match asked_for(alloc, &matches) {
+            Ok(meaning) => meaning,
+            Err(refusal) => fails(alloc, refusal),
+        },
+        Err(error) => match refused(alloc, words, &error) {
+            Ok(meaning) => meaning,
+            Err(_) => Meaning::Fails(Failure::Memory),
+        },
+    }
 }

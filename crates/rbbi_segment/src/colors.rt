@@ -29,6 +29,20 @@ pub struct Surroundings {
     pub sizes: Sizes,
 }
 
+impl Surroundings {
+    /// The colours of what is printed.
+    pub(crate) fn output_colors(&self, when: When) -> Colors
+        ensures { result ≡ colors_for when self.now.output_is_terminal self.now.no_color }
+    {
+        Colors::new(when, self.output_is_terminal, self.no_color)
+    }
+
+    /// The colours of what is reported.
+    pub(crate) fn fault_colors(&self, when: When) -> Colors {
+        Colors::new(when, self.errors_are_on_terminal, self.no_color)
+    }
+}
+
 /// Whether there are colours.
 #[derive(Clone, Copy)]
 pub(crate) struct Colors {

@@ -1,21 +1,24 @@
 //! Which rules make the segments of a text, and why there is a boundary at a place, or none.
 ghost use Rattle.std.specs.Prelude.{◌≡◌, ◌<◌, ◌≤◌, length};
 ghost use Rattle.rbbi_text.specs.Bytes.{most_bytes};
+ghost use Rattle.rbbi_model.specs.Rules.{AreLawful};
+ghost use Rattle.rbbi_resolve.specs.RuleLists.{rules_of};
 
 use crate::basis::properties_of;
 use crate::colors::{Colors, Surroundings};
 use crate::escapes::append_name;
-use crate::failure::{Failure, IS_REFUSED};
-use crate::options::{Asked, Basis, Layout, Request, Task};
+use crate::failure::{Failure, Status};
+use crate::options::{Asked, Basis, Layout, Request};
 use crate::quoted::{Style, put_characters, put_line, put_waiting};
 use crate::reading::{RULES_LIMIT, read, read_text};
 use crate::rules::table_of_rules;
-use crate::segments::{Progress, Receive, Segment, Span, hand_window};
+use crate::segments::{Extent, Progress, Receive, Segment, Span, hand_window};
 use rbbi_builtin::add_asked_for;
 use rbbi_compile::{read_rules, rule_text};
 use rbbi_explain::{Explainer, Explanation, Origin, Part, Reason, RuleText, rule_texts};
 use rbbi_io::{Files, Sink, WriteErr, put_all, put_when_full};
 use rbbi_props::PropTable;
+use rbbi_resolve::Rules;
 use rbbi_table::{FrontPlaces, Table};
 use rbbi_text::{Chars, PlainText, Steps, Unit, append, append_number};
 use std::alloc::{AllocError, Global};
@@ -45,12 +48,40 @@ struct Explaining<'a> {
     made: Vec<u8>,
 }
 
+/// The table of a rule file, and what explains its segments.
+#[derive(Drop)]
+struct Ruled<'a> {
+    table: Table,
+    receiver: Explaining<'a>,
+}
+
+/// What is known of rules of this text.
+fn known_by<'a>(
+    alloc: Global,
+    name: &'a str,
+    text: &str,
+    rules: &Rules,
+) -> Result<Known<'a>, Failure>
+    requires short { length text.now ≤ most_bytes }
+    requires lawful { AreLawful (rules_of rules.now) }
+{
+    let Ok(explainer) = Explainer::new(alloc, rules) else {
+        return Err(Failure::Memory);
+    };
+    let texts = rule_texts(alloc, text, rules)?;
+    Ok(Known {
+        name,
+        explainer,
+        texts,
+    })
+}
+
 /// What is known of the rules of a file that has a table.
 fn known_of<'a>(
     alloc: Global,
     name: &'a str,
     bytes: &[u8],
-    mut properties: PropTable,
+    properties: &mut PropTable,
     ignore_dictionary: bool,
 ) -> Result<Known<'a>, Failure>
     requires { length bytes.now ≤ most_bytes }
@@ -59,39 +90,102 @@ fn known_of<'a>(
     let Ok(text) = rule_text(bytes) else {
         return Err(Failure::Memory);
     };
-    add_asked_for(alloc, text, &mut properties)?;
-    let Ok(rules) = read_rules(alloc, text, &properties, ignore_dictionary) else {
-        return Err(Failure::Memory);
-    };
-    let Ok(explainer) = Explainer::new(alloc, &rules) else {
-        return Err(Failure::Memory);
-    };
-    let texts = rule_texts(alloc, text, &rules)?;
-    Ok(Known {
-        name,
-        explainer,
-        texts,
+    add_asked_for(alloc, text, properties)?;
+    match read_rules(alloc, text, properties, ignore_dictionary) {
+        Ok(rules) => known_by(alloc, name, text, &rules),
+        Err(_) => Err(Failure::Memory),
+    }
+}
+
+/// What explains by what is known of rules.
+fn receiver_of<'a>(
+    alloc: Global,
+    request: &Request<'_>,
+    asked: Asked,
+    colors: Colors,
+    known: Known<'a>,
+) -> Explaining<'a> {
+    Explaining {
+        alloc,
+        known,
+        asked,
+        style: Style {
+            layout: Layout::Text,
+            wanted: request.wanted,
+            colors,
+        },
+        unit: request.unit,
+        is_met: false,
+        made: Vec::new(alloc),
+    }
+}
+
+/// The table of the bytes of a rule file, and what explains its segments.
+fn ruled_by<'a>(
+    alloc: Global,
+    name: &'a str,
+    bytes: &[u8],
+    request: &Request<'_>,
+    asked: Asked,
+    surroundings: Surroundings,
+    properties: &mut PropTable,
+) -> Result<Ruled<'a>, Failure>
+    requires { length bytes.now ≤ most_bytes }
+{
+    let faults = surroundings.fault_colors(request.color);
+    let colors = surroundings.output_colors(request.color);
+    let ignored = request.ignore_dictionary;
+    let table = table_of_rules(alloc, name, bytes, properties, ignored, faults)?;
+    let known = known_of(alloc, name, bytes, properties, ignored)?;
+    Ok(Ruled {
+        table,
+        receiver: receiver_of(alloc, request, asked, colors, known),
     })
 }
 
-/// The table of a rule file, and what is known of its rules.
-fn read_known<'a, F: Files, R: Read, L: Ledger>(
+/// The same for the rule file of this name, over these property files.
+fn read_over<'a, F: Files, R: Read, L: Ledger>(
     alloc: Global,
     name: &'a str,
     request: &Request<'_>,
-    faults: Colors,
+    asked: Asked,
+    surroundings: Surroundings,
+    properties: &mut PropTable,
     files: &mut F,
     input: &mut R,
     steps: &mut Steps<L>,
-) -> Result<(Table, Known<'a>), Failure> {
-    let given = request.properties.as_slice();
-    let ignored = request.ignore_dictionary;
-    let mut properties = properties_of(alloc, given, faults, files, input, steps)?;
+) -> Result<Ruled<'a>, Failure> {
+    let faults = surroundings.fault_colors(request.color);
     let raw = read(alloc, name, RULES_LIMIT, faults, files, input)?;
     let bytes = raw.bytes(steps);
-    let table = table_of_rules(alloc, name, bytes, &mut properties, ignored, faults)?;
-    let known = known_of(alloc, name, bytes, properties, ignored)?;
-    Ok((table, known))
+    ruled_by(alloc, name, bytes, request, asked, surroundings, properties)
+}
+
+/// The same over the property files that are asked for.
+fn read_ruled<'a, F: Files, R: Read, L: Ledger>(
+    alloc: Global,
+    name: &'a str,
+    request: &Request<'_>,
+    asked: Asked,
+    surroundings: Surroundings,
+    files: &mut F,
+    input: &mut R,
+    steps: &mut Steps<L>,
+) -> Result<Ruled<'a>, Failure> {
+    let faults = surroundings.fault_colors(request.color);
+    let given = request.properties.as_slice();
+    let mut properties = properties_of(alloc, given, faults, files, input, steps)?;
+    read_over(
+        alloc,
+        name,
+        request,
+        asked,
+        surroundings,
+        &mut properties,
+        files,
+        input,
+        steps,
+    )
 }
 
 /// A segment or a part of one in a text that is held whole.
@@ -427,7 +521,7 @@ impl Receive for Explaining<'_> {
 fn past_the_end(alloc: Global, place: u32, end: u32) -> Failure {
     match format!(in alloc; "error: --explain {place}: the text ends at {end}\n") {
         Ok(text) => match text.as_bytes().to_vec(alloc) {
-            Ok(bytes) => Failure::Told(IS_REFUSED, bytes),
+            Ok(bytes) => Failure::Told(Status::IsRefused, bytes),
             Err(_) => Failure::Memory,
         },
         Err(_) => Failure::Memory,
@@ -446,40 +540,54 @@ fn explain_all<K: Sink, L: Ledger>(
     let unit = receiver.unit;
     let mut marks = FrontPlaces::new(alloc, table)?;
     let start = Progress::START;
+    let extent = Extent {
+        is_whole: true,
+        is_last: true,
+        limit: u32::MAX,
+    };
     let _progress = hand_window(
-        table, &None, text, unit, true, &mut marks, start, receiver, out, steps,
+        table, &None, text, unit, extent, &mut marks, start, receiver, out, steps,
     )?;
     receiver.end(out)?;
     Ok(())
 }
 
-/// Explains a text by a table and what is known of its rules.
+/// Explains a text.
 fn explain_text<K: Sink, L: Ledger>(
     alloc: Global,
-    request: &Request<'_>,
-    asked: Asked,
-    colors: Colors,
-    table: &Table,
-    known: Known<'_>,
+    ruled: &mut Ruled<'_>,
     text: &PlainText,
     out: &mut K,
     steps: &mut Steps<L>,
 ) -> Result<(), Failure> {
-    let mut receiver = Explaining {
-        alloc,
-        known,
+    let receiver = &mut ruled.receiver;
+    explain_all(alloc, &ruled.table, text, receiver, out, steps)?;
+    let Explaining {
+        unit,
         asked,
-        style: Style {
-            layout: Layout::Text,
-            wanted: request.wanted,
-            colors,
-        },
-        unit: request.unit,
-        is_met: false,
-        made: Vec::new(alloc),
-    };
-    explain_all(alloc, table, text, &mut receiver, out, steps)?;
-    answer_rest(alloc, text, request.unit, asked, receiver.is_met, out)
+        is_met,
+        ..
+    } = receiver;
+    answer_rest(alloc, text, *unit, *asked, *is_met, out)
+}
+
+/// Explains the text that a request names. It answers how many sequences of its bytes were
+/// replaced.
+fn explain_named<F: Files, R: Read, K: Sink, L: Ledger>(
+    alloc: Global,
+    request: &Request<'_>,
+    surroundings: Surroundings,
+    ruled: &mut Ruled<'_>,
+    files: &mut F,
+    input: &mut R,
+    out: &mut K,
+    steps: &mut Steps<L>,
+) -> Result<u32, Failure> {
+    let name = *request.names.first().unwrap_or(&"-");
+    let faults = surroundings.fault_colors(request.color);
+    let (text, replaced) = read_text(alloc, name, request.is_lossy, faults, files, input, steps)?;
+    explain_text(alloc, ruled, &text, out, steps)?;
+    Ok(replaced)
 }
 
 /// Says which rules of the rule file make each segment of the text that a request names, or what
@@ -494,19 +602,29 @@ pub(crate) fn explain<F: Files, R: Read, K: Sink, L: Ledger>(
     out: &mut K,
     steps: &mut Steps<L>,
 ) -> Result<u32, Failure> {
-    let (Task::Segment, Basis::Rules(rules)) = (request.task, request.basis) else {
+    let Basis::Rules(name) = request.basis else {
         return Ok(0);
     };
-    let name = *request.names.first().unwrap_or(&"-");
-    let no_color = surroundings.no_color;
-    let faults = Colors::new(request.color, surroundings.errors_are_on_terminal, no_color);
-    let colors = Colors::new(request.color, surroundings.output_is_terminal, no_color);
-    let (table, known) = read_known(alloc, rules, request, faults, files, input, steps)?;
-    let (text, replaced) = read_text(alloc, name, request.is_lossy, faults, files, input, steps)?;
-    explain_text(
-        alloc, request, asked, colors, &table, known, &text, out, steps,
+    let mut ruled = read_ruled(
+        alloc,
+        name,
+        request,
+        asked,
+        surroundings,
+        files,
+        input,
+        steps,
     )?;
-    Ok(replaced)
+    explain_named(
+        alloc,
+        request,
+        surroundings,
+        &mut ruled,
+        files,
+        input,
+        out,
+        steps,
+    )
 }
 
 /// Answers a place that no segment has inside or ends at: the start of the text, or none.

@@ -1,30 +1,47 @@
 //! How a run ends early.
+ghost use Rattle.std.specs.Prelude.{◌≡◌};
+ghost use Rattle.rbbi_segment.specs.Statuses.{number_of};
 
 use crate::colors::Colors;
 use rbbi_io::WriteErr;
 use std::alloc::{AllocError, AllocFailed};
+use std::io;
 
-/// The exit status where the rule file has a fault.
-pub(crate) const HAS_FAULT: u8 = 1;
+/// The exit status of a run that ends early.
+#[derive(Clone, Copy)]
+pub(crate) enum Status {
+    /// The rule file has a fault.
+    HasFault,
+    /// The arguments are invalid, a file can't be read, used or written, or memory ran out.
+    IsRefused,
+    /// Something is found in the rule file that changes nothing.
+    HasFindings,
+    /// Nobody reads the output any more: that of a program that `SIGPIPE` ends.
+    IsClosed,
+}
 
-/// The exit status where the words are wrong, or a file can't be read, used or written.
-pub(crate) const IS_REFUSED: u8 = 2;
-
-/// The exit status where something is found in the rule file that changes nothing.
-pub(crate) const HAS_FINDINGS: u8 = 3;
-
-/// The exit status where nobody reads the output any more: that of a program that `SIGPIPE` ends.
-pub(crate) const IS_CLOSED: u8 = 141;
+impl Status {
+    /// Its number.
+    pub(crate) fn number(self) -> u8
+        ensures { result ≡ number_of self }
+    {
+        match self {
+            Status::HasFault => 1,
+            Status::IsRefused => 2,
+            Status::HasFindings => 3,
+            Status::IsClosed => 141,
+        }
+    }
+}
 
 /// Why a run ends early.
 #[derive(Drop)]
 pub(crate) enum Failure {
-    /// Help or the version was asked for: what goes to the standard output.
-    Shown(Vec<u8>),
     /// The exit status, and what goes to the standard error.
-    Told(u8, Vec<u8>),
-    /// The file of this name couldn't be read. What is reported has these colours.
-    Unread(String, Colors),
+    Told(Status, Vec<u8>),
+    /// The file of this name couldn't be read, and what the system said of the read that failed, if
+    /// that is known. What is reported has these colours.
+    Unread(String, Option<io::Error>, Colors),
     /// The output couldn't be written.
     Unwritten,
     /// Memory ran out.

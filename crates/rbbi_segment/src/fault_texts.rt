@@ -217,7 +217,7 @@ static TEXTS: [FaultText; 44] = [
     },
     FaultText {
         label: "SegmentTooLong",
-        cause: "a segment is too long: it has 4194304 characters or more",
+        cause: "the end of a segment isn't found in 4194304 characters",
         help: "Break the text into shorter parts, or by rules that match less.",
     },
     FaultText {
@@ -279,9 +279,14 @@ static TEXTS: [FaultText; 44] = [
     },
 ];
 
+/// What is reported of each fault.
+fn texts() -> &'static [FaultText] {
+    &TEXTS
+}
+
 /// What is reported of the fault with this label.
 pub(crate) fn text_of(label: &str) -> FaultText {
-    for text in TEXTS.iter() {
+    for text in texts() {
         if text.label == label {
             return *text;
         }

@@ -4,7 +4,7 @@ ghost use Rattle.rbbi_text.specs.Bytes.{most_bytes};
 
 use crate::colors::{Color, Colors};
 use crate::escapes::{append_name, append_plain, is_hidden};
-use crate::failure::{Failure, HAS_FAULT};
+use crate::failure::{Failure, Status};
 use crate::fault_texts::{TABLE_FILE, text_of};
 use crate::hints::help_at;
 use crate::missing::missing_at;
@@ -38,6 +38,13 @@ pub(crate) enum Place {
     Byte(u64),
     /// The line, from 1.
     Line(u32),
+}
+
+/// Where a fault is shown, and what is wrong there.
+#[derive(Clone, Copy)]
+struct Shown {
+    place: u32,
+    cause: &'static str,
 }
 
 /// Appends the part of a first line that follows the name and the place.
@@ -125,15 +132,95 @@ pub(crate) fn append_shown(
 /// Appends the name of a rule file, a place in it and what is wrong there, and shows the place.
 fn append_at(
     source: &Source<'_>,
-    place: u32,
+    shown: Shown,
     label: &str,
-    cause: &str,
     out: &mut Vec<u8>,
 ) -> Result<(), AllocError> {
-    let position = position_of(source.text, place);
+    let position = position_of(source.text, shown.place);
     append_position(source.name, &position, out)?;
-    append_cause(label, cause, source.colors, out)?;
+    append_cause(label, shown.cause, source.colors, out)?;
     append_shown(&position, source.colors, out)
+}
+
+/// Where something is missing, if that is why the file can't go on at a place. Appends how to mend
+/// it.
+fn report_missing(
+    alloc: Global,
+    source: &Source<'_>,
+    place: u32,
+    help: &mut Vec<u8>,
+) -> Result<Option<Shown>, AllocError>
+    requires { length source.now.text.now ≤ most_bytes }
+{
+    let Some((at, text)) = missing_at(alloc, source.text, place)? else {
+        return Ok(None);
+    };
+    append(text.help.as_bytes(), help)?;
+    Ok(Some(Shown {
+        place: at,
+        cause: text.cause,
+    }))
+}
+
+/// What is wrong with a property. Appends how to mend it.
+fn report_unknown(
+    alloc: Global,
+    source: &Source<'_>,
+    place: u32,
+    given: &PropTable,
+    help: &mut Vec<u8>,
+) -> Result<Option<Shown>, AllocError>
+    requires { length source.now.text.now ≤ most_bytes }
+{
+    let Some(advice) = advice_at(alloc, source.text, place, given)? else {
+        return Ok(None);
+    };
+    append_advice(&advice, help)?;
+    Ok(Some(Shown {
+        place,
+        cause: cause_of(advice.unknown),
+    }))
+}
+
+/// What is wrong by the label alone. Appends how to mend it.
+fn report_label(
+    alloc: Global,
+    source: &Source<'_>,
+    label: &str,
+    place: u32,
+    help: &mut Vec<u8>,
+) -> Result<Shown, AllocError>
+    requires { length source.now.text.now ≤ most_bytes }
+{
+    if label == "Undefined" || label == "Redefined" {
+        append_name_advice(alloc, source.text, label == "Redefined", place, help)?;
+    }
+    let text = text_of(label);
+    let hint = help_at(label, &position_of(source.text, place)).unwrap_or(text.help);
+    let is_table = source.text.starts_with("RBBITBL");
+    append(if is_table { TABLE_FILE } else { hint }.as_bytes(), help)?;
+    Ok(Shown {
+        place,
+        cause: text.cause,
+    })
+}
+
+/// What is wrong by what stands at the place, if that is known. Appends how to mend it.
+fn report_there(
+    alloc: Global,
+    source: &Source<'_>,
+    label: &str,
+    place: u32,
+    given: &PropTable,
+    help: &mut Vec<u8>,
+) -> Result<Option<Shown>, AllocError>
+    requires { length source.now.text.now ≤ most_bytes }
+{
+    match label {
+        "Syntax" => report_missing(alloc, source, place, help),
+        "UnknownProperty" => report_unknown(alloc, source, place, given, help),
+        _ => Ok(None),
+    }
 }
 
 /// Where a fault of a rule file is shown, and what is wrong there. Appends how to mend it.
@@ -144,29 +231,13 @@ fn report(
     place: u32,
     given: &PropTable,
     help: &mut Vec<u8>,
-) -> Result<(u32, &'static str), AllocError>
+) -> Result<Shown, AllocError>
     requires { length source.now.text.now ≤ most_bytes }
 {
-    if label == "Syntax"
-        && let Some((at, text)) = missing_at(alloc, source.text, place)?
-    {
-        append(text.help.as_bytes(), help)?;
-        return Ok((at, text.cause));
+    match report_there(alloc, source, label, place, given, help)? {
+        Some(shown) => Ok(shown),
+        None => report_label(alloc, source, label, place, help),
     }
-    if label == "UnknownProperty"
-        && let Some(advice) = advice_at(alloc, source.text, place, given)?
-    {
-        append_advice(&advice, help)?;
-        return Ok((place, cause_of(advice.unknown)));
-    }
-    if label == "Undefined" || label == "Redefined" {
-        append_name_advice(alloc, source.text, label == "Redefined", place, help)?;
-    }
-    let text = text_of(label);
-    let hint = help_at(label, &position_of(source.text, place)).unwrap_or(text.help);
-    let is_table = source.text.starts_with("RBBITBL");
-    append(if is_table { TABLE_FILE } else { hint }.as_bytes(), help)?;
-    Ok((place, text.cause))
 }
 
 /// Appends what is reported of a fault at a place of a rule file.
@@ -181,8 +252,8 @@ fn append_fault(
     requires { length source.now.text.now ≤ most_bytes }
 {
     let mut help = Vec::new(alloc);
-    let (at, cause) = report(alloc, source, label, place, given, &mut help)?;
-    append_at(source, at, label, cause, out)?;
+    let shown = report(alloc, source, label, place, given, &mut help)?;
+    append_at(source, shown, label, out)?;
     append_help(&help, out)
 }
 
@@ -261,7 +332,7 @@ pub(crate) fn fault_at(
 {
     let mut message = Vec::new(alloc);
     match append_fault(alloc, source, label, place, given, &mut message) {
-        Ok(()) => Failure::Told(HAS_FAULT, message),
+        Ok(()) => Failure::Told(Status::HasFault, message),
         Err(_) => Failure::Memory,
     }
 }
@@ -269,7 +340,7 @@ pub(crate) fn fault_at(
 /// The failure that a file has a fault of this label.
 pub(crate) fn fault_of(
     alloc: Global,
-    status: u8,
+    status: Status,
     name: &str,
     label: &str,
     place: Place,

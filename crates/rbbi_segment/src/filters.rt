@@ -2,11 +2,12 @@
 ghost use Rattle.std.specs.Prelude.{◌≡◌, ◌≤◌, ℕ, List, length, IfOk};
 ghost use Rattle.rbbi_text.specs.Bytes.{most_bytes};
 ghost use Rattle.rbbi_model.specs.Words.{IsText};
+ghost use Rattle.rbbi_segment.specs.Contents.{IsRead};
 ghost use Rattle.rbbi_segment.specs.Filters.{IsFilterOf, IsListed, IsPaired, searched};
 
 use crate::abbreviations::{Language, abbreviations};
 use crate::colors::Colors;
-use crate::failure::{Failure, IS_REFUSED};
+use crate::failure::{Failure, Status};
 use crate::faults::{Place, fault_of};
 use crate::options::Filtering;
 use crate::reading::{FILTER_LIMIT, read};
@@ -24,7 +25,7 @@ fn refused(alloc: Global, name: &str, error: LinesErr, colors: Colors) -> Failur
         LinesErr::BadLine(line) => ("BadLine", Place::Line(line)),
         LinesErr::Memory => return Failure::Memory,
     };
-    fault_of(alloc, IS_REFUSED, name, label, place, colors)
+    fault_of(alloc, Status::IsRefused, name, label, place, colors)
 }
 
 /// The filter of a file of abbreviations.
@@ -38,7 +39,7 @@ fn suppressing(
 {
     if bytes.len() > MOST_BYTES {
         let place = Place::Whole;
-        return Err(fault_of(alloc, IS_REFUSED, name, "TooLong", place, colors));
+        return Err(fault_of(alloc, Status::IsRefused, name, "TooLong", place, colors));
     }
     match Abbreviations::read(alloc, bytes) {
         Ok(list) => Ok(Some(Filter::Suppressing(list))),
@@ -70,6 +71,44 @@ fn of_language(alloc: Global, language: Language, colors: Colors) -> Result<Opti
     suppressing(alloc, "--suppress", &bytes, colors)
 }
 
+/// The filter of the file of abbreviations of this name. What the files hold stays.
+fn read_suppressing<F: Files, R: Read, L: Ledger>(
+    alloc: Global,
+    name: &str,
+    colors: Colors,
+    files: &mut F,
+    input: &mut R,
+    steps: &mut Steps<L>,
+) -> Result<Option<Filter>, Failure>
+    ensures filter { IfOk result (λ filter. (bytes : List ℕ)
+        × IsRead (F.contents files.old) (R.remaining input.old) name.now bytes
+        (R.remaining input.new) × IsListed bytes filter) }
+    ensures same { F.contents files.new ≡ F.contents files.old }
+{
+    let raw = read(alloc, name, FILTER_LIMIT, colors, files, input)?;
+    let bytes = raw.bytes(steps);
+    suppressing(alloc, name, bytes, colors)
+}
+
+/// The filter of the file of pairs of this name. What the files hold stays.
+fn read_turning<F: Files, R: Read, L: Ledger>(
+    alloc: Global,
+    name: &str,
+    colors: Colors,
+    files: &mut F,
+    input: &mut R,
+    steps: &mut Steps<L>,
+) -> Result<Option<Filter>, Failure>
+    ensures filter { IfOk result (λ filter. (bytes : List ℕ)
+        × IsRead (F.contents files.old) (R.remaining input.old) name.now bytes
+        (R.remaining input.new) × IsPaired bytes filter) }
+    ensures same { F.contents files.new ≡ F.contents files.old }
+{
+    let raw = read(alloc, name, FILTER_LIMIT, colors, files, input)?;
+    let bytes = raw.bytes(steps);
+    turning(alloc, name, bytes, colors)
+}
+
 /// The filter that is named, if one is. What the files hold stays.
 pub(crate) fn filter_of<F: Files, R: Read, L: Ledger>(
     alloc: Global,
@@ -79,20 +118,17 @@ pub(crate) fn filter_of<F: Files, R: Read, L: Ledger>(
     input: &mut R,
     steps: &mut Steps<L>,
 ) -> Result<Option<Filter>, Failure>
-    ensures filter { IfOk result (IsFilterOf (F.contents files.old) filtering.entry) }
+    ensures filter { IfOk result (λ filter. IsFilterOf (F.contents files.old)
+        (R.remaining input.old) filtering.entry filter (R.remaining input.new)) }
     ensures same { F.contents files.new ≡ F.contents files.old }
 {
     match filtering {
         Filtering::Nothing => Ok(None),
         Filtering::Language(language) => of_language(alloc, language, colors),
         Filtering::Abbreviations(name) => {
-            let bytes = read(alloc, name, FILTER_LIMIT, colors, files, input)?;
-            suppressing(alloc, name, bytes.bytes(steps), colors)
+            read_suppressing(alloc, name, colors, files, input, steps)
         }
-        Filtering::Pairs(name) => {
-            let bytes = read(alloc, name, FILTER_LIMIT, colors, files, input)?;
-            turning(alloc, name, bytes.bytes(steps), colors)
-        }
+        Filtering::Pairs(name) => read_turning(alloc, name, colors, files, input, steps),
     }
 }
 

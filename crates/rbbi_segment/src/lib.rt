@@ -37,6 +37,6 @@ mod variables;
 mod wrapped;
 
 pub use colors::Surroundings;
-pub use program::segment;
+pub use program::{CommandLine, segment};
 pub use streaming::Sizes;
 pub use system::System;

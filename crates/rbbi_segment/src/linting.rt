@@ -3,9 +3,9 @@ ghost use Rattle.std.specs.Prelude.{◌≤◌, length};
 ghost use Rattle.rbbi_text.specs.Bytes.{most_bytes};
 
 use crate::basis::properties_of;
-use crate::colors::{Colors, Surroundings};
+use crate::colors::Surroundings;
 use crate::escapes::{Within, append_character};
-use crate::failure::{Failure, HAS_FINDINGS, IS_REFUSED};
+use crate::failure::{Failure, Status};
 use crate::faults::{Source, append_position, append_shown};
 use crate::options::Request;
 use crate::reading::{RULES_LIMIT, read};
@@ -16,6 +16,7 @@ use rbbi_compile::{read_rules, rule_text};
 use rbbi_io::{Files, Sink, put_all};
 use rbbi_lint::{Effect, Findings, Pair, Part, Piece, effect_of, lint, pieces};
 use rbbi_props::PropTable;
+use rbbi_resolve::Rules;
 use rbbi_table::Table;
 use rbbi_text::{Steps, append, append_number};
 use std::alloc::{AllocError, Global};
@@ -194,41 +195,162 @@ fn lines_of(alloc: Global, source: &Source<'_>, report: &Report) -> Result<Vec<u
 }
 
 /// The failure that no active rule stands in a line.
-fn no_rule(alloc: Global) -> Result<Failure, AllocError> {
-    let message = b"segment: no active rule stands in the line of --why\n".to_vec(alloc)?;
-    Ok(Failure::Told(IS_REFUSED, message))
+fn no_rule(alloc: Global) -> Failure {
+    match b"segment: no active rule stands in the line of --why\n".to_vec(alloc) {
+        Ok(message) => Failure::Told(Status::IsRefused, message),
+        Err(_) => Failure::Memory,
+    }
+}
+
+/// The report of what is found in rules.
+fn found_in(
+    alloc: Global,
+    text: &str,
+    rules: &Rules,
+    table: &Table,
+    props: &PropTable,
+    ignored: bool,
+) -> Result<Report, AllocError>
+    requires { length text.now ≤ most_bytes }
+{
+    let findings = lint(alloc, text, rules, table, props, ignored)?;
+    report_of(alloc, text, &findings)
+}
+
+/// The report of why the rules in a line are needed.
+fn needed_in(
+    alloc: Global,
+    text: &str,
+    line: u32,
+    rules: &Rules,
+    table: &Table,
+    props: &PropTable,
+    ignored: bool,
+) -> Result<Report, AllocError>
+    requires { length text.now ≤ most_bytes }
+{
+    let tried = pieces(alloc, text, rules)?;
+    reasons_of(alloc, text, tried.as_slice(), line, table, props, ignored)
+}
+
+/// The report that is asked for.
+fn report_asked_for(
+    alloc: Global,
+    text: &str,
+    why: Option<u32>,
+    rules: &Rules,
+    table: &Table,
+    props: &PropTable,
+    ignored: bool,
+) -> Result<Report, AllocError>
+    requires { length text.now ≤ most_bytes }
+{
+    match why {
+        None => found_in(alloc, text, rules, table, props, ignored),
+        Some(line) => needed_in(alloc, text, line, rules, table, props, ignored),
+    }
 }
 
 /// The report that is asked for of the text of a rule file that has this table.
-fn report_asked_for(
+fn report_on(
     alloc: Global,
     text: &str,
     why: Option<u32>,
     table: &Table,
     props: &PropTable,
     ignored: bool,
-) -> Result<Report, Failure>
+) -> Result<Report, AllocError>
     requires { length text.now ≤ most_bytes }
 {
-    let Ok(rules) = read_rules(alloc, text, props, ignored) else {
+    match read_rules(alloc, text, props, ignored) {
+        Ok(rules) => report_asked_for(alloc, text, why, &rules, table, props, ignored),
+        Err(_) => Err(AllocError),
+    }
+}
+
+/// Prints a report, and answers 0. If something was found, the run ends with `HasFindings`.
+fn put_report<K: Sink>(
+    alloc: Global,
+    source: &Source<'_>,
+    report: &Report,
+    out: &mut K,
+) -> Result<u32, Failure> {
+    let lines = lines_of(alloc, source, report)?;
+    put_all(out, &lines)?;
+    if report.has_findings {
+        return Err(Failure::Told(Status::HasFindings, Vec::new(alloc)));
+    }
+    Ok(0)
+}
+
+/// Prints what is asked for of the text of a rule file that has this table.
+fn lint_text<K: Sink>(
+    alloc: Global,
+    request: &Request<'_>,
+    source: &Source<'_>,
+    why: Option<u32>,
+    table: &Table,
+    props: &PropTable,
+    out: &mut K,
+) -> Result<u32, Failure>
+    requires { length source.now.text.now ≤ most_bytes }
+{
+    let ignored = request.ignore_dictionary;
+    let report = report_on(alloc, source.text, why, table, props, ignored)?;
+    if why.is_some() && report.remarks.is_empty() {
+        return Err(no_rule(alloc));
+    }
+    put_report(alloc, source, &report, out)
+}
+
+/// Prints what is asked for of the bytes of a rule file.
+fn lint_bytes<K: Sink>(
+    alloc: Global,
+    request: &Request<'_>,
+    name: &str,
+    bytes: &[u8],
+    why: Option<u32>,
+    surroundings: Surroundings,
+    props: &mut PropTable,
+    out: &mut K,
+) -> Result<u32, Failure>
+    requires { length bytes.now ≤ most_bytes }
+{
+    let faults = surroundings.fault_colors(request.color);
+    let ignored = request.ignore_dictionary;
+    let table = table_of_rules(alloc, name, bytes, props, ignored, faults)?;
+    let Ok(text) = rule_text(bytes) else {
         return Err(Failure::Memory);
     };
-    let Some(line) = why else {
-        let findings = lint(alloc, text, &rules, table, props, ignored)?;
-        return Ok(report_of(alloc, text, &findings)?);
-    };
-    let tried = pieces(alloc, text, &rules)?;
-    let report = reasons_of(alloc, text, tried.as_slice(), line, table, props, ignored)?;
-    if report.remarks.is_empty() {
-        return Err(no_rule(alloc)?);
-    }
-    Ok(report)
+    add_asked_for(alloc, text, props)?;
+    let colors = surroundings.output_colors(request.color);
+    let source = Source { name, text, colors };
+    lint_text(alloc, request, &source, why, &table, props, out)
+}
+
+/// Prints what is asked for of the rule file of this name, over these property files.
+fn lint_over<F: Files, R: Read, K: Sink, L: Ledger>(
+    alloc: Global,
+    request: &Request<'_>,
+    name: &str,
+    why: Option<u32>,
+    surroundings: Surroundings,
+    props: &mut PropTable,
+    files: &mut F,
+    input: &mut R,
+    out: &mut K,
+    steps: &mut Steps<L>,
+) -> Result<u32, Failure> {
+    let faults = surroundings.fault_colors(request.color);
+    let file = read(alloc, name, RULES_LIMIT, faults, files, input)?;
+    let bytes = file.bytes(steps);
+    lint_bytes(alloc, request, name, bytes, why, surroundings, props, out)
 }
 
 /// Prints what is found in the rule file of this name, or why the rules in a line are needed, and
-/// answers 0.
+/// answers 0, the number of sequences that were replaced.
 ///
-/// If something is found, the run ends with `HAS_FINDINGS`.
+/// If something is found, the run ends with `HasFindings`.
 pub(crate) fn lint_file<F: Files, R: Read, K: Sink, L: Ledger>(
     alloc: Global,
     request: &Request<'_>,
@@ -240,25 +362,19 @@ pub(crate) fn lint_file<F: Files, R: Read, K: Sink, L: Ledger>(
     out: &mut K,
     steps: &mut Steps<L>,
 ) -> Result<u32, Failure> {
-    let no_color = surroundings.no_color;
-    let faults = Colors::new(request.color, surroundings.errors_are_on_terminal, no_color);
+    let faults = surroundings.fault_colors(request.color);
     let given = request.properties.as_slice();
     let mut props = properties_of(alloc, given, faults, files, input, steps)?;
-    let file = read(alloc, name, RULES_LIMIT, faults, files, input)?;
-    let bytes = file.bytes(steps);
-    let ignored = request.ignore_dictionary;
-    let table = table_of_rules(alloc, name, bytes, &mut props, ignored, faults)?;
-    let Ok(text) = rule_text(bytes) else {
-        return Ok(0);
-    };
-    add_asked_for(alloc, text, &mut props)?;
-    let report = report_asked_for(alloc, text, why, &table, &props, ignored)?;
-    let colors = Colors::new(request.color, surroundings.output_is_terminal, no_color);
-    let source = Source { name, text, colors };
-    let lines = lines_of(alloc, &source, &report)?;
-    put_all(out, &lines)?;
-    if report.has_findings {
-        return Err(Failure::Told(HAS_FINDINGS, Vec::new(alloc)));
-    }
-    Ok(0)
+    lint_over(
+        alloc,
+        request,
+        name,
+        why,
+        surroundings,
+        &mut props,
+        files,
+        input,
+        out,
+        steps,
+    )
 }

@@ -1,16 +1,17 @@
 //! The segments of the texts that are named, in the format that is asked for.
-ghost use Rattle.std.specs.Prelude.{◌≡◌, ◌++◌, ℕ, List, Option, IfSome, OnOk, chars, codes};
+ghost use Rattle.std.specs.Prelude.{◌≡◌, ◌++◌, ℕ, List, [], Option, IfSome, OnOk, chars, codes};
 ghost use Rattle.rbbi_io.specs.Sinks.{Takes};
+ghost use Rattle.rbbi_model.specs.Boundaries.{Boundary};
 ghost use Rattle.rbbi_model.specs.Words.{IsText};
-ghost use Rattle.rbbi_segment_tables.specs.Annexes.{GivesAnnex};
-ghost use Rattle.rbbi_segment_tables.specs.declared.loading.Kind.{Kind};
-ghost use Rattle.rbbi_segment.specs.Annexes.{AreTakenInTurn, TakesAnnex, TakesText, heading_of};
-ghost use Rattle.rbbi_segment.specs.Contents.{IsTextGiven, IsTextOf};
+ghost use Rattle.rbbi_segment.specs.Contents.{IsTextGiven};
 ghost use Rattle.rbbi_segment.specs.Headings.{arrows, gap, heading};
 ghost use Rattle.rbbi_segment.specs.Lines.{lines, lines_in};
+ghost use Rattle.rbbi_segment.specs.Runs.{AreTakenInTurn, Manner, TakesHeaded, TakesText};
+ghost use Rattle.rbbi_segment.specs.Runs.{colors_of, heading_of, printed};
 ghost use Rattle.rbbi_segment.specs.Segments.{segments};
+ghost use Rattle.rbbi_segment.specs.Tables.{GivesBreaks};
 
-use crate::colors::Colors;
+use crate::colors::{Colors, Surroundings};
 use crate::escapes::{Within, append_characters, append_name};
 use crate::failure::Failure;
 use crate::filters::searches_texts;
@@ -29,29 +30,35 @@ use std::alloc::{AllocError, Global};
 use std::io::Read;
 use std::sync::ledger::Ledger;
 
+/// By what texts are segmented.
+#[derive(Drop)]
+pub(crate) struct Means {
+    pub(crate) table: Table,
+    pub(crate) filter: Option<Filter>,
+}
+
 /// Prints by itself each segment of a text by a table that is asked for, with offsets in the unit.
 /// It answers how many sequences of its bytes were replaced.
 fn put_lines<R: Read, K: Sink, L: Ledger>(
     origin: Origin<'_>,
     style: Style,
-    table: &Table,
-    filter: &Option<Filter>,
+    means: &Means,
     reader: &mut R,
     unit: Unit,
     out: &mut K,
     steps: &mut Steps<L>,
 ) -> Result<u32, Failure>
-    ensures { OnOk result ((x : List ℕ)
-        × IsTextGiven origin.entry.is_lossy (R.remaining reader.old) x × IsText x
+    ensures { OnOk result ((x : List ℕ) × IsTextGiven origin.entry.is_lossy
+        (R.remaining reader.old) x (R.remaining reader.new) × IsText x
         × Takes (K.taken out.old) (K.taken out.new)
-        (lines style x (segments unit filter.now table.now x))) }
+        (lines style x (segments unit means.now.filter means.now.table x))) }
 {
     let made = Vec::new(origin.alloc);
     let mut receiver = Quoted { style, made };
     hand_over(
         origin,
-        table,
-        filter,
+        &means.table,
+        &means.filter,
         reader,
         unit,
         &mut receiver,
@@ -65,20 +72,20 @@ fn put_lines<R: Read, K: Sink, L: Ledger>(
 fn put_segments<R: Read, K: Sink, L: Ledger>(
     origin: Origin<'_>,
     request: &Request<'_>,
-    table: &Table,
-    filter: &Option<Filter>,
+    means: &Means,
     reader: &mut R,
     colors: Colors,
     out: &mut K,
     steps: &mut Steps<L>,
 ) -> Result<u32, Failure>
-    ensures { OnOk result ((x : List ℕ)
-        × IsTextGiven origin.entry.is_lossy (R.remaining reader.old) x × IsText x
+    ensures { OnOk result ((x : List ℕ) × IsTextGiven origin.entry.is_lossy
+        (R.remaining reader.old) x (R.remaining reader.new) × IsText x
         × IfSome (lines_in request.now.format request.now.wanted colors
-        x (segments request.now.unit filter.now table.now x))
+        x (segments request.now.unit means.now.filter means.now.table x))
         (Takes (K.taken out.old) (K.taken out.new))) }
 {
     let alloc = origin.alloc;
+    let Means { table, filter } = means;
     let unit = request.unit;
     let chars = Unit::Chars;
     let wanted = request.wanted;
@@ -89,7 +96,7 @@ fn put_segments<R: Read, K: Sink, L: Ledger>(
                 wanted,
                 colors,
             };
-            put_lines(origin, style, table, filter, reader, unit, out, steps)
+            put_lines(origin, style, means, reader, unit, out, steps)
         }
         Format::Marked(mark) => {
             let mut receiver = Marked {
@@ -144,54 +151,21 @@ fn put_segments<R: Read, K: Sink, L: Ledger>(
 fn put_text<R: Read, K: Sink, L: Ledger>(
     origin: Origin<'_>,
     request: &Request<'_>,
-    table: &Table,
-    filter: &Option<Filter>,
+    means: &Means,
     reader: &mut R,
     colors: Colors,
     out: &mut K,
     steps: &mut Steps<L>,
 ) -> Result<u32, Failure>
-    ensures { (kind : Kind) → GivesAnnex kind table.now → OnOk result ((x : List ℕ)
-        × IsTextGiven origin.entry.is_lossy (R.remaining reader.old) x
-        × TakesAnnex kind request.now filter.now colors x (K.taken out.old) (K.taken out.new)) }
+    ensures { (breaks : List ℕ → List Boundary) → GivesBreaks means.now.table breaks
+        → let manner : Manner = record
+        { breaks = breaks; filter = means.now.filter; colors = colors } in
+        OnOk result ((x : List ℕ) × IsTextGiven origin.entry.is_lossy
+        (R.remaining reader.old) x (R.remaining reader.new)
+        × IfSome (printed request.now manner x) (Takes (K.taken out.old) (K.taken out.new))) }
 {
-    searches_texts(filter);
-    put_segments(origin, request, table, filter, reader, colors, out, steps)
-}
-
-/// Prints the segments of the text with this name, or of the standard input if it is `-`. It
-/// answers how many sequences of its bytes were replaced.
-fn put_named<S: System, R: Read, K: Sink, L: Ledger>(
-    origin: Origin<'_>,
-    request: &Request<'_>,
-    table: &Table,
-    filter: &Option<Filter>,
-    system: &S,
-    input: &mut R,
-    colors: Colors,
-    out: &mut K,
-    steps: &mut Steps<L>,
-) -> Result<u32, Failure>
-    ensures { (kind : Kind) → GivesAnnex kind table.now → OnOk result ((x : List ℕ)
-        × IsTextOf origin.entry.is_lossy (S.contents system.now) origin.entry.name.now x
-        × TakesAnnex kind request.now filter.now colors x (K.taken out.old) (K.taken out.new)) }
-{
-    if origin.name == "-" {
-        return put_text(origin, request, table, filter, input, colors, out, steps);
-    }
-    match system.open(origin.name) {
-        Ok(mut reader) => put_text(
-            origin,
-            request,
-            table,
-            filter,
-            &mut reader,
-            colors,
-            out,
-            steps,
-        ),
-        Err(_) => Err(origin.unread()),
-    }
+    searches_texts(&means.filter);
+    put_segments(origin, request, means, reader, colors, out, steps)
 }
 
 /// Appends a name between arrows.
@@ -264,32 +238,147 @@ fn put_heading<K: Sink>(
     Ok(())
 }
 
-/// Prints the segments of the texts that are named, one text after the other, each with its heading
-/// if that is asked for. It answers of each how many sequences of its bytes were replaced.
-pub(crate) fn put_texts<S: System, R: Read, K: Sink, L: Ledger>(
+/// Prints the segments of the text that a reader gives, after its heading. It answers how many
+/// sequences of its bytes were replaced.
+fn put_headed<R: Read, K: Sink, L: Ledger>(
     origin: Origin<'_>,
     request: &Request<'_>,
-    table: &Table,
-    filter: &Option<Filter>,
+    is_first: bool,
+    means: &Means,
+    reader: &mut R,
+    colors: Colors,
+    out: &mut K,
+    steps: &mut Steps<L>,
+) -> Result<u32, Failure>
+    ensures { (breaks : List ℕ → List Boundary) → GivesBreaks means.now.table breaks
+        → let manner : Manner = record
+        { breaks = breaks; filter = means.now.filter; colors = colors } in
+        OnOk result ((x : List ℕ) × IsTextGiven origin.entry.is_lossy
+        (R.remaining reader.old) x (R.remaining reader.new)
+        × TakesHeaded request.now manner is_first origin.entry.name.now x
+        (K.taken out.old) (K.taken out.new)) }
+{
+    put_heading(origin.alloc, request, is_first, origin.name, out)?;
+    put_text(origin, request, means, reader, colors, out, steps)
+}
+
+/// Prints the segments of the text with this name, or of the standard input if it is `-`, after its
+/// heading. It answers how many sequences of its bytes were replaced. Nothing is printed of a text
+/// that can't be opened.
+fn put_named<S: System, R: Read, K: Sink, L: Ledger>(
+    origin: Origin<'_>,
+    request: &Request<'_>,
+    is_first: bool,
+    means: &Means,
     system: &S,
     input: &mut R,
     colors: Colors,
     out: &mut K,
     steps: &mut Steps<L>,
-) -> Result<Vec<u32>, Failure>
+) -> Result<u32, Failure>
     requires { origin.is_lossy ≡ request.now.is_lossy }
-    ensures { (kind : Kind) → GivesAnnex kind table.now → OnOk result (AreTakenInTurn
-        (TakesText kind request.now filter.now colors (S.contents system.now))
-        (K.taken out.old) request.now.names.items (K.taken out.new)) }
+    ensures { (breaks : List ℕ → List Boundary) → GivesBreaks means.now.table breaks
+        → let manner : Manner = record
+        { breaks = breaks; filter = means.now.filter; colors = colors } in
+        OnOk result (TakesText request.now manner (S.contents system.now) is_first
+        origin.entry.name.now
+        (record { taken = K.taken out.old; left = R.remaining input.old })
+        (record { taken = K.taken out.new; left = R.remaining input.new })) }
 {
-    let mut replaced = Vec::new(origin.alloc);
+    if origin.name == "-" {
+        return put_headed(origin, request, is_first, means, input, colors, out, steps);
+    }
+    match system.open(origin.name) {
+        Ok(mut reader) => put_headed(
+            origin,
+            request,
+            is_first,
+            means,
+            &mut reader,
+            colors,
+            out,
+            steps,
+        ),
+        Err(fault) => Err(origin.unread(Some(fault))),
+    }
+}
+
+/// Prints the segments of the texts that are named, one text after the other, each with its heading
+/// if that is asked for. Appends of each how many sequences of its bytes were replaced.
+fn put_each<S: System, R: Read, K: Sink, L: Ledger>(
+    origin: Origin<'_>,
+    request: &Request<'_>,
+    means: &Means,
+    system: &S,
+    input: &mut R,
+    colors: Colors,
+    out: &mut K,
+    replaced: &mut Vec<u32>,
+    steps: &mut Steps<L>,
+) -> Result<(), Failure>
+    requires lossy { origin.is_lossy ≡ request.now.is_lossy }
+    requires none { replaced.old.items ≡ [] }
+    ensures { (breaks : List ℕ → List Boundary) → GivesBreaks means.now.table breaks
+        → let manner : Manner = record
+        { breaks = breaks; filter = means.now.filter; colors = colors } in
+        OnOk result (AreTakenInTurn (TakesText request.now manner (S.contents system.now))
+        (record { taken = K.taken out.old; left = R.remaining input.old })
+        request.now.names.items
+        (record { taken = K.taken out.new; left = R.remaining input.new })) }
+{
     for name in &request.names {
-        put_heading(origin.alloc, request, replaced.is_empty(), name, out)?;
+        let is_first = replaced.is_empty();
         let origin = Origin { name, ..origin };
         let count = put_named(
-            origin, request, table, filter, system, input, colors, out, steps,
+            origin, request, is_first, means, system, input, colors, out, steps,
         )?;
         replaced.push(count)?;
     }
+    Ok(())
+}
+
+/// Prints the segments of the texts that are named, one text after the other, each with its heading
+/// if that is asked for. It answers of each how many sequences of its bytes were replaced.
+pub(crate) fn put_texts<S: System, R: Read, K: Sink, L: Ledger>(
+    alloc: Global,
+    request: &Request<'_>,
+    surroundings: Surroundings,
+    means: &Means,
+    system: &S,
+    input: &mut R,
+    out: &mut K,
+    steps: &mut Steps<L>,
+) -> Result<Vec<u32>, Failure>
+    ensures { (breaks : List ℕ → List Boundary) → GivesBreaks means.now.table breaks
+        → let manner : Manner = record {
+          breaks = breaks;
+          filter = means.now.filter;
+          colors = colors_of request.now surroundings;
+        } in
+        OnOk result (AreTakenInTurn (TakesText request.now manner (S.contents system.now))
+        (record { taken = K.taken out.old; left = R.remaining input.old })
+        request.now.names.items
+        (record { taken = K.taken out.new; left = R.remaining input.new })) }
+{
+    let origin = Origin {
+        alloc,
+        name: "-",
+        colors: surroundings.fault_colors(request.color),
+        sizes: surroundings.sizes,
+        is_lossy: request.is_lossy,
+    };
+    let colors = surroundings.output_colors(request.color);
+    let mut replaced = Vec::new(alloc);
+    put_each(
+        origin,
+        request,
+        means,
+        system,
+        input,
+        colors,
+        out,
+        &mut replaced,
+        steps,
+    )?;
     Ok(replaced)
 }

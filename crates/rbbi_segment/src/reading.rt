@@ -3,16 +3,16 @@ ghost use Rattle.std.specs.Prelude.{◌≡◌, ◌≤◌, length, IfOk, chars};
 ghost use Rattle.std.specs.Str.Lossy.{utf8_lossy};
 ghost use Rattle.rbbi_model.specs.Words.{IsText};
 ghost use Rattle.rbbi_text.specs.Bytes.{most_bytes};
-ghost use Rattle.rbbi_segment.specs.Contents.{IsHeld, IsTextOf};
+ghost use Rattle.rbbi_segment.specs.Contents.{IsRead};
 
 use crate::colors::Colors;
 use crate::escapes::append_name;
-use crate::failure::{Failure, IS_REFUSED};
+use crate::failure::{Failure, Status};
 use crate::faults::{Place, fault_of};
 use rbbi_io::{Files, ReadErr, Sink, put_all, read_at_most};
 use rbbi_text::{PlainText, Raw, RawErr, Steps, TextErr, append, append_number};
 use std::alloc::{AllocError, Global};
-use std::io::Read;
+use std::io::{self, Read};
 use std::sync::ledger::Ledger;
 
 /// The most bytes of a rule file.
@@ -30,23 +30,28 @@ pub(crate) const FILTER_LIMIT: u64 = 65_536;
 /// The most bytes of a text that is explained.
 const TEXT_LIMIT: u64 = 67_108_864;
 
-/// All bytes of the file of this name, at most `limit`, or of the standard input if it is `-`. What
-/// the files hold stays.
+/// All bytes of the file of this name, at most `limit`, or all that the standard input has left if
+/// it is `-`. What the files hold stays. What the system says of a read that fails is kept in
+/// `fault`.
 fn bytes_of<F: Files, R: Read>(
     alloc: Global,
     name: &str,
     limit: u64,
     files: &mut F,
     input: &mut R,
+    fault: &mut Option<io::Error>,
 ) -> Result<Raw, ReadErr>
     ensures within { IfOk result (λ bytes. length bytes ≤ limit) }
-    ensures held { IfOk result (IsHeld (F.contents files.old) name.now) }
+    ensures read { IfOk result (λ bytes. IsRead (F.contents files.old) (R.remaining input.old)
+        name.now bytes (R.remaining input.new)) }
     ensures same { F.contents files.new ≡ F.contents files.old }
 {
     if name == "-" {
-        read_at_most(alloc, input, limit)
+        read_at_most(alloc, input, limit, fault)
     } else {
-        files.read(alloc, name, limit)
+        let outcome = files.read(alloc, name, limit);
+        *fault = files.read_fault();
+        outcome
     }
 }
 
@@ -60,13 +65,22 @@ pub(crate) fn read<F: Files, R: Read>(
     input: &mut R,
 ) -> Result<Raw, Failure>
     ensures within { IfOk result (λ bytes. length bytes ≤ limit) }
-    ensures held { IfOk result (IsHeld (F.contents files.old) name.now) }
+    ensures read { IfOk result (λ bytes. IsRead (F.contents files.old) (R.remaining input.old)
+        name.now bytes (R.remaining input.new)) }
     ensures same { F.contents files.new ≡ F.contents files.old }
 {
-    let failure = match bytes_of(alloc, name, limit, files, input) {
+    let mut fault = None;
+    let failure = match bytes_of(alloc, name, limit, files, input, &mut fault) {
         Ok(bytes) => return Ok(bytes),
-        Err(ReadErr::Failed) => Failure::Unread(String::from_str(alloc, name)?, colors),
-        Err(ReadErr::TooLong) => fault_of(alloc, IS_REFUSED, name, "TooLong", Place::Whole, colors),
+        Err(ReadErr::Failed) => Failure::Unread(String::from_str(alloc, name)?, fault, colors),
+        Err(ReadErr::TooLong) => fault_of(
+            alloc,
+            Status::IsRefused,
+            name,
+            "TooLong",
+            Place::Whole,
+            colors,
+        ),
         Err(ReadErr::Memory) => Failure::Memory,
     };
     Err(failure)
@@ -83,7 +97,7 @@ fn strict_text(alloc: Global, name: &str, bytes: &Raw, colors: Colors) -> Result
         Err(RawErr::TooManyChars) => ("TooManyChars", Place::Whole),
         Err(RawErr::Memory) => return Err(Failure::Memory),
     };
-    Err(fault_of(alloc, IS_REFUSED, name, label, place, colors))
+    Err(fault_of(alloc, Status::IsRefused, name, label, place, colors))
 }
 
 /// The text of these bytes with U+FFFD in place of each sequence that isn't UTF-8.
@@ -95,7 +109,14 @@ fn lossy_text(alloc: Global, name: &str, bytes: &[u8], colors: Colors) -> Result
         Ok(text) => Ok(text),
         Err(TextErr::TooManyChars) => {
             let place = Place::Whole;
-            Err(fault_of(alloc, IS_REFUSED, name, "TooManyChars", place, colors))
+            Err(fault_of(
+                alloc,
+                Status::IsRefused,
+                name,
+                "TooManyChars",
+                place,
+                colors,
+            ))
         }
         Err(TextErr::Memory) => Err(Failure::Memory),
     }
@@ -123,8 +144,7 @@ pub(crate) fn read_text<F: Files, R: Read, L: Ledger>(
     input: &mut R,
     steps: &mut Steps<L>,
 ) -> Result<(PlainText, u32), Failure>
-    ensures { IfOk result (λ (x, replaced). IsText x
-        × IsTextOf is_lossy (F.contents files.old) name.now x) }
+    ensures { IfOk result (λ (x, replaced). IsText x) }
 {
     let bytes = read(alloc, name, TEXT_LIMIT, colors, files, input)?;
     if is_lossy {

@@ -6,7 +6,7 @@ ghost use Rattle.rbbi_builtin.specs.Compiling.{CompilesOver};
 ghost use Rattle.rbbi_segment.specs.RuleFiles.{HasFileFault};
 
 use crate::colors::Colors;
-use crate::failure::{Failure, HAS_FAULT};
+use crate::failure::{Failure, Status};
 use crate::faults::{Place, Source, fault_at, fault_of};
 use rbbi_builtin::compile_over;
 use rbbi_compile::{CompileErr, rule_text};
@@ -21,7 +21,14 @@ fn told(alloc: Global, source: &Source<'_>, error: &CompileErr, given: &PropTabl
     let Source { name, colors, .. } = *source;
     match error.place() {
         Some(place) => fault_at(alloc, source, error.label(), place, given),
-        None => fault_of(alloc, HAS_FAULT, name, error.label(), Place::Whole, colors),
+        None => fault_of(
+            alloc,
+            Status::HasFault,
+            name,
+            error.label(),
+            Place::Whole,
+            colors,
+        ),
     }
 }
 
@@ -45,7 +52,7 @@ pub(crate) fn table_of_rules(
         Ok(text) => text,
         Err(at) => {
             let place = Place::Byte(at.into());
-            return Err(fault_of(alloc, HAS_FAULT, name, "NotUtf8", place, colors));
+            return Err(fault_of(alloc, Status::HasFault, name, "NotUtf8", place, colors));
         }
     };
     match compile_over(alloc, text, properties, ignore_dictionary) {

@@ -1,6 +1,6 @@
 //! The segments of a text by a table, handed over one after the other.
-ghost use Rattle.std.specs.Prelude.{◌≡◌, ◌<◌, ◌≤◌, ◌⊎◌, ℕ, List, Option, length, ⊤, OnOk, IfOk};
-ghost use Rattle.std.specs.Prelude.{IfSome, IsTrue, slice_range};
+ghost use Rattle.std.specs.Prelude.{◌≡◌, ◌+◌, ◌<◌, ◌≤◌, ◌⊎◌, ℕ, List, Option, length, ⊤};
+ghost use Rattle.std.specs.Prelude.{OnOk, IfOk, IfSome, IsTrue, slice_range};
 ghost use Rattle.rbbi_model.specs.Tables.{statuses_of};
 ghost use Rattle.rbbi_model.specs.Places.{largest};
 ghost use Rattle.rbbi_model.specs.Units.{offset_of};
@@ -146,24 +146,41 @@ fn reports<S: Chars, L: Ledger>(
     }
 }
 
-/// Whether what was found in a window of so many characters is found in the whole text, too.
-fn is_final(found: Found, len: u32, is_whole: bool) -> bool
-    ensures whole { IsTrue is_whole → IsTrue result }
-    ensures within { IsTrue result → IsTrue is_whole ⊎ ((found.look ≤ len) × (found.at < len)) }
+/// What is known of the text that follows a window.
+#[derive(Clone, Copy)]
+pub(crate) struct Extent {
+    /// Whether nothing depends on it: the text ends with the window, or a line that ends searches.
+    pub(crate) is_whole: bool,
+    /// Whether the text ends with the window.
+    pub(crate) is_last: bool,
+    /// A segment is looked for in so many characters from its start on, unless the text ends there.
+    pub(crate) limit: u32,
+}
+
+/// Whether what was found for the segment from `start` on in a window of so many characters is
+/// found in the whole text, too, by the characters up to the limit alone.
+fn is_final(found: Found, start: u32, len: u32, extent: Extent) -> bool
+    ensures last { IsTrue extent.is_whole → IsTrue extent.is_last → len ≤ start + extent.limit
+        → IsTrue result }
+    ensures within { IsTrue result
+        → IsTrue extent.is_whole ⊎ ((found.look ≤ len) × (found.at < len)) }
 {
-    is_whole || (found.look <= len && found.at < len)
+    let most = start.saturating_add(extent.limit);
+    let end = len.min(most);
+    let is_whole = extent.is_whole && (len < most || (extent.is_last && len == most));
+    is_whole || (found.look <= end && found.at < end)
 }
 
 /// Hands the segments of a text over that end within a window of it, whose boundaries are looked
-/// for in `searched`. With `is_whole` nothing depends on what follows the window, and all that are
-/// left are handed over; otherwise those that don't.
+/// for in `searched`: those that don't depend on what follows the window, up to one that isn't found
+/// within the limit.
 fn hand_searched<S: Chars, V: Receive, K: Sink, L: Ledger>(
     table: &Table,
     searched: &S,
     text: &PlainText,
     filter: &Option<Filter>,
     unit: Unit,
-    is_whole: bool,
+    extent: Extent,
     marks: &mut FrontPlaces,
     progress: Progress,
     receiver: &mut V,
@@ -175,9 +192,10 @@ fn hand_searched<S: Chars, V: Receive, K: Sink, L: Ledger>(
     requires fit { marks.old ≡ table.now.slashes }
     ensures fit { marks.new ≡ marks.old }
     ensures lies { IfOk result (λ later. LiesIn text.now later) }
-    ensures all { IsTrue is_whole → IfOk result (λ later. length text.now ≤ later.at) }
+    ensures all { IsTrue extent.is_whole → IsTrue extent.is_last → IfOk result (λ later.
+        (length text.now ≤ later.at) ⊎ (later.start + extent.limit < length text.now)) }
     ensures handed { IfOk result (λ later. HandsOn V.takes V.pauses unit filter.now
-        table.now text.now is_whole progress receiver.old (K.taken out.old) later receiver.new
+        table.now text.now extent.is_whole progress receiver.old (K.taken out.old) later receiver.new
         (K.taken out.new)) }
 {
     rbbi_model::next_boundary_is_past_the_start();
@@ -186,7 +204,7 @@ fn hand_searched<S: Chars, V: Receive, K: Sink, L: Ledger>(
     let mut now = progress;
     while now.at < len {
         let found = table.next(searched, now.at, marks, steps);
-        if !is_final(found, len, is_whole) {
+        if !is_final(found, now.start, len, extent) {
             return Ok(now);
         }
         let at = found.at;
@@ -226,7 +244,7 @@ fn hand_turned<G: CharMap, V: Receive, K: Sink, L: Ledger>(
     map: &G,
     filter: &Option<Filter>,
     unit: Unit,
-    is_whole: bool,
+    extent: Extent,
     marks: &mut FrontPlaces,
     progress: Progress,
     receiver: &mut V,
@@ -239,26 +257,27 @@ fn hand_turned<G: CharMap, V: Receive, K: Sink, L: Ledger>(
     requires fit { marks.old ≡ table.now.slashes }
     ensures fit { marks.new ≡ marks.old }
     ensures lies { IfOk result (λ later. LiesIn text.now later) }
-    ensures all { IsTrue is_whole → IfOk result (λ later. length text.now ≤ later.at) }
+    ensures all { IsTrue extent.is_whole → IsTrue extent.is_last → IfOk result (λ later.
+        (length text.now ≤ later.at) ⊎ (later.start + extent.limit < length text.now)) }
     ensures handed { IfOk result (λ later. HandsOn V.takes V.pauses unit filter.now
-        table.now text.now is_whole progress receiver.old (K.taken out.old) later receiver.new
+        table.now text.now extent.is_whole progress receiver.old (K.taken out.old) later receiver.new
         (K.taken out.new)) }
 {
     let turned = Mapped::new(text, pairs, map);
     hand_searched(
-        table, &turned, text, filter, unit, is_whole, marks, progress, receiver, out, steps,
+        table, &turned, text, filter, unit, extent, marks, progress, receiver, out, steps,
     )
 }
 
 /// Hands the segments of a text by a table over that a filter leaves and that end within a window
-/// of it, with offsets in the unit. With `is_whole` nothing depends on what follows the window, and
-/// all that are left are handed over; otherwise those that don't.
+/// of it, with offsets in the unit: those that don't depend on what follows the window, up to one
+/// that isn't found within the limit. If the text ends with the window, those are all that are left.
 pub(crate) fn hand_window<V: Receive, K: Sink, L: Ledger>(
     table: &Table,
     filter: &Option<Filter>,
     text: &PlainText,
     unit: Unit,
-    is_whole: bool,
+    extent: Extent,
     marks: &mut FrontPlaces,
     progress: Progress,
     receiver: &mut V,
@@ -269,21 +288,22 @@ pub(crate) fn hand_window<V: Receive, K: Sink, L: Ledger>(
     requires fit { marks.old ≡ table.now.slashes }
     ensures fit { marks.new ≡ marks.old }
     ensures lies { IfOk result (λ later. LiesIn text.now later) }
-    ensures all { IsTrue is_whole → IfOk result (λ later. length text.now ≤ later.at) }
+    ensures all { IsTrue extent.is_whole → IsTrue extent.is_last → IfOk result (λ later.
+        (length text.now ≤ later.at) ⊎ (later.start + extent.limit < length text.now)) }
     ensures handed { IfOk result (λ later. HandsOn V.takes V.pauses unit filter.now
-        table.now text.now is_whole progress receiver.old (K.taken out.old) later receiver.new
+        table.now text.now extent.is_whole progress receiver.old (K.taken out.old) later receiver.new
         (K.taken out.new)) }
 {
     match filter {
         Some(Filter::Turning(pairs)) => {
             let map = |c: char| pairs.turn(c);
             hand_turned(
-                table, text, pairs, &map, filter, unit, is_whole, marks, progress, receiver, out,
+                table, text, pairs, &map, filter, unit, extent, marks, progress, receiver, out,
                 steps,
             )
         }
         None | Some(Filter::Suppressing(_)) => hand_searched(
-            table, text, text, filter, unit, is_whole, marks, progress, receiver, out, steps,
+            table, text, text, filter, unit, extent, marks, progress, receiver, out, steps,
         ),
     }
 }

@@ -15,16 +15,16 @@ ghost use Rattle.rbbi_segment.specs.Spelled.{IsFront, IsSpelled, Reads, marks};
 ghost use Rattle.rbbi_segment.specs.Windows.{IsShifted, LiesIn};
 
 use crate::colors::Colors;
-use crate::failure::{Failure, IS_REFUSED};
+use crate::failure::{Failure, Status};
 use crate::faults::{Place, fault_of};
 use crate::line_ends::{end_lines, is_whole};
-use crate::segments::{Progress, Receive, hand_window};
+use crate::segments::{Extent, Progress, Receive, hand_window};
 use rbbi_filter::Filter;
 use rbbi_io::Sink;
 use rbbi_table::{FrontPlaces, Table};
 use rbbi_text::{Chars, EditErr, EditText, PlainText, Steps, TextErr, Unit};
 use std::alloc::{AllocError, Global};
-use std::io::{ErrorKind, Read};
+use std::io::{self, ErrorKind, Read};
 use std::sync::ledger::Ledger;
 
 /// How many characters before a boundary a filter looks at.
@@ -39,15 +39,16 @@ const FEW: u32 = 4096;
 pub struct Sizes {
     /// How many bytes are read at once, at most; at least one.
     pub block: u32,
-    /// With this many characters or more a window doesn't grow.
-    pub window: u32,
+    /// How many characters from a segment's start on are read to find its end, at most. A segment
+    /// whose end isn't found in them is refused, unless the text ends there.
+    pub limit: u32,
 }
 
 impl Sizes {
     /// What serves files of any size in little memory.
     pub const USUAL: Sizes = Sizes {
         block: 262_144,
-        window: 4_194_304,
+        limit: 4_194_304,
     };
 }
 
@@ -65,13 +66,20 @@ pub(crate) struct Origin<'a> {
 impl Origin<'_> {
     /// The failure that the text has a fault of this label.
     pub(crate) fn fault(&self, label: &str, place: Place) -> Failure {
-        fault_of(self.alloc, IS_REFUSED, self.name, label, place, self.colors)
+        fault_of(
+            self.alloc,
+            Status::IsRefused,
+            self.name,
+            label,
+            place,
+            self.colors,
+        )
     }
 
-    /// The failure that the text can't be read.
-    pub(crate) fn unread(&self) -> Failure {
+    /// The failure that the text can't be read, with what the system said, if that is known.
+    pub(crate) fn unread(&self, reason: Option<io::Error>) -> Failure {
         match String::from_str(self.alloc, self.name) {
-            Ok(name) => Failure::Unread(name, self.colors),
+            Ok(name) => Failure::Unread(name, reason, self.colors),
             Err(_) => Failure::Memory,
         }
     }
@@ -94,12 +102,12 @@ fn read_block<R: Read>(
             Ok(count) => return Ok(count),
             Err(fault) => {
                 if fault.kind() != ErrorKind::Interrupted {
-                    return Err(origin.unread());
+                    return Err(origin.unread(Some(fault)));
                 }
             }
         }
     }
-    Err(origin.unread())
+    Err(origin.unread(None))
 }
 
 /// What bytes begin with.
@@ -295,8 +303,8 @@ fn nothing(alloc: Global) -> Result<PlainText, Failure>
 
 /// Hands all segments of the text that a reader gives over, by a table and a filter, in their
 /// order, with offsets in the unit. It answers how many sequences of the bytes were replaced. They
-/// are refused if they aren't UTF-8 and none is to be replaced, and a segment that doesn't fit a
-/// window.
+/// are refused if they aren't UTF-8 and none is to be replaced, and a segment whose end isn't found
+/// within the limit.
 pub(crate) fn hand_over<R: Read, V: Receive, K: Sink, L: Ledger>(
     origin: Origin<'_>,
     table: &Table,
@@ -307,8 +315,8 @@ pub(crate) fn hand_over<R: Read, V: Receive, K: Sink, L: Ledger>(
     out: &mut K,
     steps: &mut Steps<L>,
 ) -> Result<u32, Failure>
-    ensures { OnOk result ((x : List ℕ)
-        × IsTextGiven origin.entry.is_lossy (R.remaining reader.old) x × IsText x
+    ensures { OnOk result ((x : List ℕ) × IsTextGiven origin.entry.is_lossy
+        (R.remaining reader.old) x (R.remaining reader.new) × IsText x
         × TakesAll V.takes V.pauses V.ends x (segments unit filter.now table.now x)
         receiver.old (K.taken out.old) (K.taken out.new)) }
 {
@@ -317,30 +325,38 @@ pub(crate) fn hand_over<R: Read, V: Receive, K: Sink, L: Ledger>(
     let mut marks = FrontPlaces::new(origin.alloc, table)?;
     let mut progress = Progress::START;
     let lines_end = end_lines(table, filter);
+    let limit = origin.sizes.limit;
     let mut enough = 0;
     for _turn in 0..u64::MAX {
         let is_last = feed.more(origin, reader, &mut window)?;
-        let all = is_whole(&window, is_last, lines_end, steps);
-        if !all && window.len() < enough {
+        let is_whole = is_whole(&window, is_last, lines_end, steps);
+        if !is_whole && window.len() < enough {
             continue;
         }
+        let extent = Extent {
+            is_whole,
+            is_last,
+            limit,
+        };
         progress = hand_window(
-            table, filter, &window, unit, all, &mut marks, progress, receiver, out, steps,
+            table, filter, &window, unit, extent, &mut marks, progress, receiver, out, steps,
         )?;
+        let pending = window.len() - progress.start;
+        if pending > limit {
+            receiver.pause(out)?;
+            return Err(origin.fault("SegmentTooLong", Place::Whole));
+        }
         if is_last {
             receiver.end(out)?;
             return Ok(feed.replaced);
         }
         receiver.pause(out)?;
         progress = shift(&mut window, progress)?;
-        if window.len() >= origin.sizes.window {
-            return Err(origin.fault("SegmentTooLong", Place::Whole));
-        }
         enough = if window.len() < FEW {
             0
         } else {
-            window.len().saturating_mul(2).min(origin.sizes.window)
+            window.len().saturating_mul(2).min(limit)
         };
     }
-    Err(origin.unread())
+    Err(origin.unread(None))
 }

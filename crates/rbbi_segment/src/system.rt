@@ -1,10 +1,10 @@
-//! The texts that a run reads, and why the system refuses what it asks for.
+//! The texts that a run reads, and why the system refuses its output.
 ghost use Rattle.std.specs.Prelude.{◌≡◌, ℕ, List, Option, Some, IfOk, IfSome};
 
 use std::io;
 use std::io::Read;
 
-/// What the system opens, and what it says of a read or a write that failed.
+/// What the system opens, and what it says of a write that failed.
 pub trait System {
     /// A file that is open.
     type Reader: Read + Drop;
@@ -16,9 +16,6 @@ pub trait System {
     fn open(&self, name: &str) -> io::Result<Self::Reader>
         ensures { IfOk result (λ reader. IfSome (contents self.now)
             (λ held. Self.Reader.remaining reader ≡ Some (held name.now))) };
-
-    /// Why the file of this name can't be read, if that is known.
-    fn unread(&self, name: &str) -> Option<io::Error>;
 
     /// Why the output couldn't be written, if that is known.
     fn unwritten(&self) -> Option<io::Error>;

@@ -7,14 +7,17 @@ use rbbi_io::{Sink, WriteErr, put_all, put_when_full};
 use rbbi_text::{Chars, PlainText, Steps, append};
 use std::alloc::{AllocError, Global};
 use std::sync::ledger::Ledger;
-use unicode_width::UnicodeWidthStr;
+use unicode_width::{UnicodeWidthChar, UnicodeWidthStr};
 
 /// The least status of a boundary at which a line has to end.
 const MUST_BREAK: u32 = 100;
 
 /// Prints the segments in lines of at most so many columns, and leaves out the white space between
 /// the last segment of a line and the first of the next. A segment that is wider has a line to
-/// itself. Where a line has to end, its white space stays.
+/// itself, with the white space that begins the line.
+///
+/// White space after the first character of it that doesn't fit in the line is left out, too. So at
+/// most as much is held as fits in a line. Where a line has to end, what is held stays.
 #[derive(Drop)]
 pub(crate) struct Wrapped {
     width: usize,
@@ -22,8 +25,12 @@ pub(crate) struct Wrapped {
     column: usize,
     /// Whether something was.
     is_begun: bool,
-    /// The white space that follows it.
+    /// The white space that follows it and fits in the line.
     space: String,
+    /// The columns of that.
+    space_columns: usize,
+    /// Whether white space followed that doesn't fit.
+    is_full: bool,
     /// The segment of the moment up to its last white space.
     word: String,
     /// The bytes that wait.
@@ -58,31 +65,55 @@ impl Wrapped {
             column: 0,
             is_begun: false,
             space: String::new(alloc),
+            space_columns: 0,
+            is_full: false,
             word: String::new(alloc),
             made: Vec::new(alloc),
         }
     }
 
-    /// Ends the line.
+    /// No white space is held.
+    fn clear_space(&mut self) {
+        self.space.clear();
+        self.space_columns = 0;
+        self.is_full = false;
+    }
+
+    /// Ends the line, and leaves out the white space that is held.
     fn end_line(&mut self) -> Result<(), AllocError> {
+        self.clear_space();
         self.column = 0;
         self.is_begun = false;
         append(b"\n", &mut self.made)
     }
 
+    /// Appends the white space that is held.
+    fn append_space(&mut self) -> Result<(), AllocError> {
+        append(self.space.as_str().as_bytes(), &mut self.made)?;
+        self.column = self.column.saturating_add(self.space_columns);
+        self.clear_space();
+        Ok(())
+    }
+
+    /// Whether a word of so many columns fits in the line after the white space.
+    fn fits(&self, columns: usize) -> bool {
+        let end = self
+            .column
+            .saturating_add(self.space_columns)
+            .saturating_add(columns);
+        !self.is_full && end <= self.width
+    }
+
     /// Appends the white space and the word, or the word in a line of its own.
     fn append_word(&mut self) -> Result<(), AllocError> {
         let columns = self.word.as_str().width();
-        let wide = self.space.as_str().width().saturating_add(columns);
-        if self.is_begun && self.column.saturating_add(wide) > self.width {
+        if self.is_begun && !self.fits(columns) {
             self.end_line()?;
-            self.column = columns;
         } else {
-            append(self.space.as_str().as_bytes(), &mut self.made)?;
-            self.column = self.column.saturating_add(wide);
+            self.append_space()?;
         }
         self.is_begun = true;
-        self.space.clear();
+        self.column = self.column.saturating_add(columns);
         append(self.word.as_str().as_bytes(), &mut self.made)
     }
 
@@ -106,6 +137,17 @@ impl Wrapped {
         self.append_word()
     }
 
+    /// Takes a character of white space, if it fits in the line.
+    fn take_white(&mut self, c: char) -> Result<(), AllocError> {
+        let columns = self.space_columns.saturating_add(c.width().unwrap_or(1));
+        self.is_full = self.is_full || self.column.saturating_add(columns) > self.width;
+        if !self.is_full {
+            self.space_columns = columns;
+            self.space.push(c)?;
+        }
+        Ok(())
+    }
+
     /// Takes the characters from one place to another as white space, but for line ends.
     fn take_space<L: Ledger>(
         &mut self,
@@ -119,7 +161,7 @@ impl Wrapped {
         for i in start..end {
             let c = text.char_at(i, steps);
             if !is_line_end(c) {
-                self.space.push(c)?;
+                self.take_white(c)?;
             }
         }
         Ok(())
@@ -139,8 +181,7 @@ impl Receive for Wrapped {
         self.take_word(text, span.from, end, steps)?;
         self.take_space(text, end, span.to, steps)?;
         if segment.status >= MUST_BREAK {
-            append(self.space.as_str().as_bytes(), &mut self.made)?;
-            self.space.clear();
+            self.append_space()?;
             self.end_line()?;
         }
         put_when_full(out, &mut self.made)

@@ -13,7 +13,7 @@ use rbbi_table::Table;
 use std::alloc::{AllocError, Global};
 
 /// What a built-in table breaks a text into.
-#[derive(Clone, Copy, Debug, PartialEq, Eq)]
+#[derive(Clone, Copy, PartialEq, Eq)]
 pub enum Kind {
     /// Extended grapheme clusters of UAX #29.
     Grapheme,

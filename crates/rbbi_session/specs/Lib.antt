@@ -7,6 +7,5 @@ pub mod UnitSessions
 pub mod UnitErrors
 pub mod Walks
 pub mod UnitWalks
-pub mod Pausing
 pub mod Stretches
 pub mod inner

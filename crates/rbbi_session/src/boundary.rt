@@ -5,7 +5,7 @@ ghost use Rattle.rbbi_session.specs.Scans.{IsBoundaryWith};
 use rbbi_table::Table;
 
 /// A boundary of a text.
-#[derive(Clone, Copy, Debug)]
+#[derive(Clone, Copy)]
 pub struct Boundary {
     /// Its place, in characters from 0.
     pub at: u32,

@@ -3,12 +3,12 @@ ghost use Rattle.std.specs.Prelude.{◌≡◌, None, Some, MatchOption};
 ghost use Rattle.rbbi_model.specs.Units.{offset_of};
 ghost use Rattle.rbbi_session.specs.KnownPlaces.{IsKnown};
 
-use crate::Session;
+use crate::{Holds, SessionBy};
 use rbbi_text::{Unit, UnitText};
 
 /// A place of a text whose offset is known. Offsets near it are found from it, and not from the
 /// text's start.
-#[derive(Clone, Copy, Debug)]
+#[derive(Clone, Copy)]
 pub struct Known {
     /// The place, in characters from 0.
     pub at: u32,
@@ -19,7 +19,11 @@ pub struct Known {
 impl Known {
     /// Where the cursor of a session by characters lies: counted from this place, where it is near.
     #[inline(always)]
-    pub(crate) fn offset_of_cursor<T: UnitText>(self, asked: &Session<'_, T>, unit: Unit) -> u32
+    pub(crate) fn offset_of_cursor<H: Holds, T: UnitText>(
+        self,
+        asked: &SessionBy<H, T>,
+        unit: Unit,
+    ) -> u32
         requires { IsKnown unit asked.now.state.text self }
         ensures { result ≡ offset_of unit asked.now.state.text asked.now.state.cursor }
     {

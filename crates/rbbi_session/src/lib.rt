@@ -7,8 +7,9 @@
 #![tactic(auto)]
 
 mod boundary;
+mod holds;
+mod kept;
 mod known;
-mod paused;
 mod session;
 mod statuses;
 mod stretch;
@@ -18,10 +19,10 @@ mod unit_walk;
 mod walk;
 
 pub use boundary::Boundary;
-pub use known::Known;
-pub use paused::Paused;
-pub use session::{Session, character_count};
+pub use holds::Holds;
+pub use kept::character_count;
+pub use session::{Session, SessionBy};
 pub use statuses::greatest;
 pub use unit_error::UnitEditErr;
-pub use unit_session::UnitSession;
+pub use unit_session::{UnitSession, UnitSessionBy};
 pub use walk::Walk;

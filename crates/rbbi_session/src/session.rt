@@ -1,5 +1,5 @@
 //! A session over a text.
-ghost use Rattle.std.specs.Prelude.{◌≡◌, ◌^◌, ◌<◌, length, chars, Some, IfOk};
+ghost use Rattle.std.specs.Prelude.{◌≡◌, ◌<◌, length, chars, Some, IfOk};
 ghost use Rattle.rbbi_model.specs.Cover.{IsPlaceOf};
 ghost use Rattle.rbbi_model.specs.Answers.{Place, Largest, AllOf, first_after, last_before};
 ghost use Rattle.rbbi_model.specs.Answers as question;
@@ -10,10 +10,9 @@ ghost use Rattle.rbbi_session.specs.Sessions.{HasTrueRuns};
 ghost use Rattle.rbbi_session.specs.Questions.{Past, Back};
 ghost use Rattle.rbbi_session.specs.Asking.{IsAsked, Asks, EditReads};
 
-use crate::boundary::{Boundary, start};
-use crate::paused::Kept;
+use crate::holds::Holds;
+use crate::kept::Kept;
 use crate::statuses::greatest;
-use rbbi_cache::Cache;
 use rbbi_table::Table;
 use rbbi_text::{EditErr, EditText, Steps};
 use std::alloc::{AllocError, Global};
@@ -26,54 +25,45 @@ use std::sync::ledger::Ledger;
 /// found are kept, so that a question reads only what it must, and asked again it reads nothing; an
 /// edit leaves what it doesn't touch. Places are in characters, from 0. No call but `open` and
 /// `replace` takes memory.
+pub type Session<'a, T> = SessionBy<&'a Table, T>;
+
+/// A [`Session`] by a table that is borrowed or shared.
 #[derive(Drop)]
-pub struct Session<'a, T: EditText> {
-    pub(crate) table: &'a Table,
-    pub(crate) kept: Box<Kept<T>>,
+pub struct SessionBy<H: Holds, T: EditText> {
+    pub(crate) table: H,
+    pub(crate) kept: Kept<T>,
 }
 
-impl<'a, T: EditText> Model for Session<'a, T> {
+impl<H: Holds, T: EditText> Model for SessionBy<H, T> {
     ghost use Rattle.rbbi_session.specs.Sessions.{Session};
+    ghost use Rattle.rbbi_session.specs.inner.Keeping.{IsKeptBy, kept_session};
 
     ghost Value = { Session };
 
-    ghost use Rattle.rbbi_session.specs.Scans.{IsConsistent};
+    ghost view = { λ session. kept_session (H.table_of session.table) session.kept };
 
-    ghost view = { λ session. record {
-      table = session.table.now;
-      state = record {
-        text = T.characters session.kept.value.text;
-        cursor = session.kept.value.here.at;
-      };
-      runs = session.kept.value.cache.runs;
-    } };
-
-    ghost invariant = { λ session. let kept = session.kept.value in IsConsistent session.table.now
-        (T.characters kept.text) kept.here.at kept.here.status kept.cache.runs kept.cache.slashes };
+    ghost invariant = { λ session. IsKeptBy (H.table_of session.table) session.kept };
 }
 
-impl<'a, T: EditText + Drop> Session<'a, T> {
+impl<H: Holds + Drop, T: EditText + Drop> SessionBy<H, T> {
     /// A session over a text, with the cursor at 0. After the refusal the text is dropped.
-    pub fn open(alloc: Global, table: &'a Table, text: T) -> Result<Session<'a, T>, AllocError>
-        ensures { IfOk result (λ session. IsOpened table.now (T.characters text) session) }
+    pub fn open(alloc: Global, table: H, text: T) -> Result<SessionBy<H, T>, AllocError>
+        ensures { IfOk result (λ session.
+            IsOpened (H.table_of table) (T.characters text) session) }
     {
-        let cache = Cache::new(alloc, table)?;
-        let here = start(table);
-        match Box::new(alloc, Kept { text, here, cache }) {
-            Ok(kept) => Ok(Session { table, kept }),
-            Err(_) => Err(AllocError),
-        }
+        let kept = Kept::new(alloc, table.table(), text)?;
+        Ok(SessionBy { table, kept })
     }
 }
 
-impl<'a, T: EditText> Session<'a, T> {
+impl<H: Holds, T: EditText> SessionBy<H, T> {
     /// Goes to the first boundary, which is 0.
     pub fn first(&mut self) -> u32
         ensures answers { Answers self.old question.First (Place result) self.new }
         ensures runs { self.new.runs ≡ self.old.runs }
         ensures are_true { HasTrueRuns self.new }
     {
-        self.kept.here = start(self.table);
+        self.kept.to_start(self.table.table());
         0
     }
 
@@ -95,7 +85,7 @@ impl<'a, T: EditText> Session<'a, T> {
         ensures answers { Answers self.old question.Next (place_reply result) self.new }
         ensures reads { Asks self.old question.Next self.new steps.old steps.new }
     {
-        let at = self.kept.here.at;
+        let at = self.kept.here().at;
         if at >= self.text().len() {
             return None;
         }
@@ -107,7 +97,7 @@ impl<'a, T: EditText> Session<'a, T> {
         ensures answers { Answers self.old question.Previous (place_reply result) self.new }
         ensures reads { Asks self.old question.Previous self.new steps.old steps.new }
     {
-        let at = self.kept.here.at;
+        let at = self.kept.here().at;
         if at == 0 {
             return None;
         }
@@ -162,7 +152,7 @@ impl<'a, T: EditText> Session<'a, T> {
         ensures answer { Place result ≡ (answer_of self.now question.Current).reply }
         ensures boundary { IsPlaceOf (boundaries_of self.now) result }
     {
-        self.kept.here.at
+        self.kept.here().at
     }
 
     /// The greatest status of the boundary at the cursor.
@@ -176,14 +166,30 @@ impl<'a, T: EditText> Session<'a, T> {
     pub fn status_list(&self) -> &[u32]
         ensures { AllOf result.now ≡ (answer_of self.now question.Statuses).reply }
     {
-        self.table.status_list(self.kept.here.status)
+        self.table.table().status_list(self.kept.here().status)
     }
 
     /// The text as it is now.
     pub fn text(&self) -> &T
         ensures { T.characters result.now ≡ self.now.state.text }
     {
-        &self.kept.text
+        self.kept.text()
+    }
+
+    /// What holds the table, and the text. It takes no memory.
+    pub fn into_parts(self) -> (H, T)
+        ensures table { H.table_of result.0 ≡ self.table }
+        ensures text { T.characters result.1 ≡ self.state.text }
+    {
+        let SessionBy { table, kept } = self;
+        (table, kept.into_text())
+    }
+
+    /// What holds the table.
+    pub fn holder(&self) -> &H
+        ensures { H.table_of result.now ≡ self.now.table }
+    {
+        &self.table
     }
 
     /// That each kept run is true of the text as it is now. Callers' proofs don't see what a
@@ -192,7 +198,7 @@ impl<'a, T: EditText> Session<'a, T> {
     pub fn runs_are_true(&self)
         ensures { HasTrueRuns self.now }
     {
-        let _text = &self.kept.text;
+        let _kept = &self.kept;
     }
 
     /// Puts the characters of `insert` in place of `remove` characters from `at` on, and the cursor
@@ -213,15 +219,8 @@ impl<'a, T: EditText> Session<'a, T> {
             steps.old steps.new }
         ensures are_true { HasTrueRuns self.new }
     {
-        let kept = &mut *self.kept;
-        // That the text is short enough for the cache is known of its length.
-        let _short = kept.text.len();
-        kept.text.replace(at, remove, insert)?;
-        let inserted = character_count(insert);
-        kept.cache
-            .edited(self.table, &kept.text, at, remove, inserted, steps);
-        kept.here = start(self.table);
-        Ok(())
+        self.kept
+            .replace(self.table.table(), at, remove, insert, steps)
     }
 
     /// Goes to the first boundary past `i`, which lies within the text.
@@ -233,16 +232,7 @@ impl<'a, T: EditText> Session<'a, T> {
             (forward_cost self.old.table self.old.state.text i)
             self.new steps.old steps.new }
     {
-        self.table.valid();
-        let kept = &mut *self.kept;
-        let Some(entry) = kept.cache.after(self.table, &kept.text, i, steps) else {
-            return kept.here.at;
-        };
-        kept.here = Boundary {
-            at: entry.at,
-            status: entry.status,
-        };
-        entry.at
+        self.kept.after(self.table.table(), i, steps)
     }
 
     /// Goes to the last boundary before `o`, which isn't 0.
@@ -253,23 +243,6 @@ impl<'a, T: EditText> Session<'a, T> {
         ensures reads { IsAsked self.old (Back o)
             (preceding_cost self.old.table self.old.state.text o) self.new steps.old steps.new }
     {
-        self.table.valid();
-        let kept = &mut *self.kept;
-        let Some(entry) = kept.cache.before(self.table, &kept.text, o, steps) else {
-            return kept.here.at;
-        };
-        kept.here = Boundary {
-            at: entry.at,
-            status: entry.status,
-        };
-        entry.at
+        self.kept.before(self.table.table(), o, steps)
     }
-}
-
-/// The number of characters of a string, at most 2^32 - 1.
-pub fn character_count(text: &str) -> u32
-    requires { length (chars text.now) < 2 ^ 32 }
-    ensures { result ≡ length (chars text.now) }
-{
-    text.chars().count() as u32
 }

@@ -10,20 +10,20 @@ ghost use Rattle.rbbi_session.specs.Scans.{IsBoundaryWith};
 ghost use Rattle.rbbi_session.specs.Sessions.{boundaries_of, MovesTo};
 ghost use Rattle.rbbi_session.specs.Stretches.{BeginsStretch};
 
-use crate::Session;
 use crate::boundary::Boundary;
+use crate::{Holds, SessionBy};
 use rbbi_cache::anchor_before;
 use rbbi_text::{Chars, EditText, Near, Steps};
 use std::sync::ledger::Ledger;
 
-impl<T: EditText> Session<'_, T> {
+impl<H: Holds, T: EditText> SessionBy<H, T> {
     /// The boundary at the cursor.
     pub fn boundary(&self) -> Boundary
         ensures at { result.at ≡ self.now.state.cursor }
         ensures boundary { IsBoundaryWith self.now.table self.now.state.text
             result.at result.status }
     {
-        self.kept.here
+        self.kept.here()
     }
 
     /// Puts the cursor at a boundary of the text. It reads nothing.
@@ -31,7 +31,7 @@ impl<T: EditText> Session<'_, T> {
         requires { IsBoundaryWith self.old.table self.old.state.text boundary.at boundary.status }
         ensures { MovesTo self.old boundary.at self.new }
     {
-        self.kept.here = boundary;
+        self.kept.stand_at(boundary);
     }
 
     /// Goes to the first boundary past the cursor by one search, which isn't kept.
@@ -43,16 +43,7 @@ impl<T: EditText> Session<'_, T> {
             (characters_read self.old.table self.old.state.text self.old.state.cursor)
             steps.old steps.new }
     {
-        self.table.valid();
-        let kept = &mut *self.kept;
-        let from = kept.here.at;
-        let near = Near::new(&kept.text, from);
-        let found = kept.cache.search(self.table, &near, from, steps);
-        kept.here = Boundary {
-            at: found.at,
-            status: found.status,
-        };
-        found.at
+        self.kept.search_on(self.table.table(), steps)
     }
 
     /// Goes to a boundary before `o` from which the boundaries up to `o` can be gone through at
@@ -63,7 +54,7 @@ impl<T: EditText> Session<'_, T> {
         requires within { o ≤ length self.old.state.text }
         ensures { BeginsStretch self.old o result self.new steps.old steps.new }
     {
-        self.table.valid();
+        self.table.table().valid();
         // That the text is short is known of its length.
         let _short = self.text().len();
         let mut anchor = self.anchor_before(o.saturating_sub(2), steps);
@@ -88,7 +79,7 @@ impl<T: EditText> Session<'_, T> {
         ensures read { steps.new + result ≤ steps.old + place + 1 }
         ensures nothing { place ≤ 1 → steps.new ≡ steps.old }
     {
-        let near = Near::new(&self.kept.text, place);
-        anchor_before(self.table, &near, 0, place, steps)
+        let near = Near::new(self.kept.text(), place);
+        anchor_before(self.table.table(), &near, 0, place, steps)
     }
 }

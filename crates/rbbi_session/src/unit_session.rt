@@ -6,11 +6,11 @@ ghost use Rattle.rbbi_session.specs.Sessions.{HasTrueRuns};
 ghost use Rattle.rbbi_session.specs.UnitSessions.{offset_in, IsOpenedBy};
 ghost use Rattle.rbbi_text.specs.Indexes.{IsIndex};
 ghost use Rattle.rbbi_session.specs.KnownPlaces.{IsKnown};
-ghost use Rattle.rbbi_session.specs.Pausing.{IsPausedBy, IsPaused, resumed};
 ghost use Rattle.rbbi_session.specs.inner.UnitPlaces.{IsPlaceUpTo, IsPlaceFrom};
 
+use crate::holds::Holds;
 use crate::known::Known;
-use crate::{Paused, Session};
+use crate::session::SessionBy;
 use rbbi_table::Table;
 use rbbi_text::{Chars, Index, Unit, UnitText};
 use std::alloc::{AllocError, Global};
@@ -25,17 +25,22 @@ const FEW: u32 = 32;
 /// Its questions and edits are those of a [`Walk`]. It asks a [`Session`] over the same text, by
 /// characters. Each answer is the one that a scan of the whole text gives, with offsets for places.
 /// No call but `open` and `replace` takes memory.
+pub type UnitSession<'a, T> = UnitSessionBy<&'a Table, T>;
+
+/// A [`UnitSession`] by a table that is borrowed or shared.
 #[derive(Drop)]
-pub struct UnitSession<'a, T: UnitText> {
-    pub(crate) asked: Session<'a, T>,
-    pub(crate) unit: Unit,
+pub struct UnitSessionBy<H: Holds, T: UnitText> {
+    /// The session by characters. A caller that goes on with it directly puts its cursor back.
+    pub asked: SessionBy<H, T>,
+    /// The unit of places.
+    pub unit: Unit,
     /// Where the cursor lies in the unit.
-    pub(crate) offset: u32,
+    pub offset: u32,
     /// A place that the latest numbers were near to.
-    pub(crate) near: Known,
+    pub near: Known,
 }
 
-impl<'a, T: UnitText> Model for UnitSession<'a, T> {
+impl<H: Holds, T: UnitText> Model for UnitSessionBy<H, T> {
     ghost use Rattle.std.specs.Prelude.{◌≡◌};
     ghost use Rattle.rbbi_model.specs.Units.{offset_of};
     ghost use Rattle.rbbi_session.specs.UnitSessions.{UnitSession};
@@ -50,21 +55,21 @@ impl<'a, T: UnitText> Model for UnitSession<'a, T> {
         × IsKnown session.unit state.text session.near };
 }
 
-impl<'a, T: UnitText + Drop> UnitSession<'a, T> {
+impl<H: Holds + Drop, T: UnitText + Drop> UnitSessionBy<H, T> {
     /// A session over a text, with the cursor at 0. After the refusal the text is dropped.
     pub fn open(
         alloc: Global,
-        table: &'a Table,
+        table: H,
         text: T,
         unit: Unit,
-    ) -> Result<UnitSession<'a, T>, AllocError>
+    ) -> Result<UnitSessionBy<H, T>, AllocError>
         ensures { IfOk result (λ session.
-            IsOpenedBy unit table.now (T.characters text) session) }
+            IsOpenedBy unit (H.table_of table) (T.characters text) session) }
     {
         let mut text = text;
         text.make_ready(unit);
-        let asked = Session::open(alloc, table, text)?;
-        Ok(UnitSession {
+        let asked = SessionBy::open(alloc, table, text)?;
+        Ok(UnitSessionBy {
             asked,
             unit,
             offset: 0,
@@ -73,49 +78,7 @@ impl<'a, T: UnitText + Drop> UnitSession<'a, T> {
     }
 }
 
-impl<'a, T: UnitText> UnitSession<'a, T> {
-    /// Lets go of the table. It takes no memory.
-    pub fn pause(self) -> Paused<T>
-        ensures { IsPaused self.entry.asked result }
-    {
-        let UnitSession {
-            asked,
-            unit: _,
-            offset: _,
-            near: _,
-        } = self;
-        asked.pause()
-    }
-
-    /// Goes on with the table that a session was paused by, by this unit, in which its cursor lies
-    /// here, from a place that is known. It takes no memory.
-    pub fn resume(
-        table: &'a Table,
-        paused: Paused<T>,
-        unit: Unit,
-        offset: u32,
-        near: Known,
-    ) -> UnitSession<'a, T>
-        requires table { IsPausedBy table.now paused }
-        requires offset { offset ≡ offset_of unit paused.state.text paused.state.cursor }
-        requires near { IsKnown unit paused.state.text near }
-        ensures { result ≡ record { unit = unit; asked = resumed table.now paused } }
-    {
-        UnitSession {
-            asked: Session::resume(table, paused),
-            unit,
-            offset,
-            near,
-        }
-    }
-
-    /// The place that the session remembers, which the latest numbers were near to.
-    pub fn near(&self) -> Known
-        ensures { IsKnown self.now.unit self.now.asked.state.text result }
-    {
-        self.near
-    }
-
+impl<H: Holds, T: UnitText> UnitSessionBy<H, T> {
     /// The place at a number, or the last one before it. It is remembered if it lies at the number,
     /// unless the number is a little past the place that is remembered.
     pub(crate) fn index(&mut self, o: u32) -> Index

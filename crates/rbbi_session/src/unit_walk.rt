@@ -2,11 +2,11 @@
 ghost use Rattle.rbbi_session.specs.Walks.{Cover, ListsArePaid, Recall};
 
 use crate::known::{Known, offset_found};
-use crate::{UnitEditErr, UnitSession, Walk};
+use crate::{Holds, UnitEditErr, UnitSessionBy, Walk};
 use rbbi_text::{EditErr, Steps, UnitText};
 use std::sync::ledger::Ledger;
 
-impl<T: UnitText> Walk for UnitSession<'_, T> {
+impl<H: Holds, T: UnitText> Walk for UnitSessionBy<H, T> {
     ghost use Rattle.rbbi_session.specs.UnitWalks.{UnitSetting, unit_view};
 
     type Text = T;

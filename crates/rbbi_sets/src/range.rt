@@ -3,7 +3,7 @@ use std::marker::Model;
 
 /// The code points from `low` to `high`, both counted. Contracts see it as a `Range` of
 /// `rbbi_model`.
-#[derive(Clone, Copy, Debug, PartialEq, Eq)]
+#[derive(Clone, Copy, PartialEq, Eq)]
 pub struct CodeRange {
     pub low: u32,
     pub high: u32,

@@ -15,7 +15,7 @@ use std::marker::Model;
 
 /// A set of code points. Contracts see it as its list of ranges, which rise and neither overlap nor
 /// touch.
-#[derive(Clone, Debug, Drop)]
+#[derive(Clone, Drop)]
 pub struct CodeSet {
     ranges: Vec<CodeRange>,
 }

@@ -15,7 +15,7 @@ use std::alloc::{AllocError, Global};
 const END: u32 = 0x11_0000;
 
 /// How to make one set of two.
-#[derive(Clone, Copy, Debug)]
+#[derive(Clone, Copy)]
 pub(crate) enum Operation {
     Union,
     Intersect,

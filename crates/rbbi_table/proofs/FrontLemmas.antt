@@ -1,48 +1,22 @@
 -- The rows that are reached while a look-ahead rule's front hasn't ended.
-use Rattle.std.proofs.Common.{◌≡◌, ◌≢◌, ℕ, suc, ◌+◌, ◌*◌, ◌<◌, ◌≤◌, ◌⊎◌, Bool, false, List, [], ◌∷◌, ◌++◌, length, take, get_or, sym, ap}
+use Rattle.std.proofs.Common.{◌≡◌, ◌≢◌, ℕ, suc, ◌+◌, ◌*◌, ◌<◌, ◌≤◌, Bool, false, List, [], ◌∷◌, ◌++◌, length, take, get_or, refl, sym, ap}
 use Rattle.std.proofs.Common.{◌∙◌, subst, inl, inr, ⊎_elim, arith}
 use Rattle.std.specs.Prelude.{IsTrue}
-use Rattle.std.proofs.lemmas.Bool.{cases_Bool, cases_lt, false≢true}
+use Rattle.std.proofs.lemmas.Bool.{cases_Bool, cases_eq, cases_lt, false≢true}
 use Rattle.std.proofs.lemmas.List.{take-append-le, take_all, length_push}
 use Rattle.rbbi_model.specs.Places.{has_bit}
-use Rattle.rbbi_model.specs.Tables.{Table, RowHead, accept_of, fronts_of, step, row_along}
-use Rattle.rbbi_model.specs.ValidTables.{IsWay}
+use Rattle.rbbi_model.specs.Tables.{Table, RowHead, head_of, accept_of, fronts_of, step, row_along}
+use Rattle.rbbi_model.specs.ValidTables.{IsWay, IsPlain}
 use Rattle.rbbi_model.proofs.Cuts.{no_bit}
 use Rattle.rbbi_model.proofs.SearchFacts.{row_along_append}
 use Rattle.rbbi_table.specs.Parts.{rows_of, AreNextRows}
-use Rattle.rbbi_table.specs.inner.Fronts.{IsFronted}
+use Rattle.rbbi_table.specs.inner.Fronts.{IsFronted, IsReached, IsWalk, IsPassed, ArePassed, GoesOn}
 use Rattle.rbbi_table.specs.inner.Targets.{IsGathered, AddsTarget}
 use Rattle.rbbi_table.proofs.MoveLemmas.{steps_of, steps_long, steps_are, row_end}
 
 -- 0 has no bit
 pub no_bit_is : (n k : ℕ) → n ≡ 0 → has_bit n k ≡ false
 no_bit_is n k none = ⊎_elim (λ is. absurd (no_bit n k none is)) (λ isnt. isnt) (cases_Bool (has_bit n k))
-
--- the row is reached from row 1 through rows at which the front doesn't end, and it is such a row
-pub record IsReached (table : Table) (slash row : ℕ) : Type 0 where
-  pub within : row < length table.rows
-  pub way : List ℕ
-  pub is_way : IsWay table way
-  pub leads : row_along table 1 way ≡ row
-  pub bits : (earlier : ℕ) → earlier ≤ length way → has_bit (fronts_of table (row_along table 1 (take earlier way))) slash ≡ false
-  pub uncompleted : accept_of table row ≢ slash + 2
-
--- the rows of the queue are reached, and row 1 is among them
-pub record IsWalk (table : Table) (slash : ℕ) (seen : List Bool) (queue : List ℕ) : Type 0 where
-  pub long : length seen ≡ length table.rows
-  pub gathered : IsGathered seen queue
-  pub start : (i : ℕ) × (i < length queue) × (get_or queue i 0 ≡ 1)
-  pub reached : (i : ℕ) → i < length queue → IsReached table slash (get_or queue i 0)
-
--- the rule isn't completed at the row, and its front ends there or the row is in the queue
-pub record IsPassed (table : Table) (slash : ℕ) (queue : List ℕ) (row : ℕ) : Type 0 where
-  pub uncompleted : accept_of table row ≢ slash + 2
-  pub goes_on : IsTrue (has_bit (fronts_of table row) slash) ⊎ ((i : ℕ) × (i < length queue) × (get_or queue i 0 ≡ row))
-
--- all rows that the first so many rows of the queue lead to are passed
-abbrev pub ArePassed : Table → ℕ → List ℕ → ℕ → Type 0
-ArePassed table slash queue count =
-    (i : ℕ) → i < count → (category : ℕ) → category < table.categories → IsPassed table slash queue (step table (get_or queue i 0) category)
 
 all_append : (table : Table) (way : List ℕ) (category : ℕ) → IsWay table way → category < table.categories → IsWay table (way ++ category ∷ [])
 all_append table [] category is within = (within, tt)
@@ -163,3 +137,40 @@ walk_on table slash seen seen' queue queue' target walk long gathered adds reach
           (λ new. subst (λ r. IsReached table slash r) (sym new) reached)
           (adds.only i short);
     }
+
+-- row 1 alone
+pub walk_start : (table : Table) (slash : ℕ) (seen : List Bool) (queue : List ℕ) → 2 ≤ length table.rows → IsPlain (head_of table 1) →
+    length seen ≡ length table.rows → IsGathered seen queue → AddsTarget [] 1 queue → IsWalk table slash seen queue
+walk_start table slash seen queue some plain long gathered adds =
+    let first : IsReached table slash 1 = record {
+      within = omega (arith, some);
+      way = [];
+      is_way = tt;
+      leads = refl;
+      bits = λ earlier most. ap (λ w. has_bit (fronts_of table (row_along table 1 w)) slash) (take_all earlier [] (omega arith)) ∙ no_bit_is (fronts_of table 1) slash plain.1;
+      uncompleted = λ completed. omega (arith, plain.0, completed);
+    } in
+    record {
+      long = long;
+      gathered = gathered;
+      start = adds.has;
+      reached = λ i short.
+          ⊎_elim
+          (λ old. absurd (omega (arith, old.0)))
+          (λ new. subst (λ r. IsReached table slash r) (sym new) first)
+          (adds.only i short);
+    }
+
+-- one more row of the queue that is followed
+pub passed_on : (table : Table) (slash row done : ℕ) (old : List ℕ) (seen : List Bool) (new : List ℕ) → ArePassed table slash old done → done < length old →
+    row ≡ get_or old done 0 → GoesOn table slash row old seen new → ArePassed table slash new (done + 1)
+passed_on table slash row done old seen new passed short is on i less category low =
+    ⊎_elim
+    (λ same.
+    subst (λ n. IsPassed table slash new (step table n category)) (is ∙ sym (on.keeps done short).1 ∙ ap (λ n. get_or new n 0) (sym same))
+    (on.passed category low))
+    (λ other.
+    let below : i < done = omega arith in
+    subst (λ n. IsPassed table slash new (step table n category)) (sym (on.keeps i (omega (arith, below, short))).1)
+    (passed_more table slash old new (step table (get_or old i 0) category) on.keeps (passed i below category low)))
+    (cases_eq i done)

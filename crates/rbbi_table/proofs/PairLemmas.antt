@@ -1,21 +1,15 @@
 -- The bits of the first pairs.
-use Rattle.std.proofs.Common.{◌≡◌, ◌≢◌, ℕ, ◌+◌, ◌*◌, ◌/◌, ◌<◌, ◌≤◌, ◌↔◌, Bool, true, false, cond, eqb, IsTrue, List, [], length, get_or, refl, sym}
+use Rattle.std.proofs.Common.{◌≡◌, ℕ, ◌+◌, ◌*◌, ◌/◌, ◌<◌, ◌≤◌, ◌↔◌, Bool, true, false, IsTrue, List, [], length, get_or, refl, sym}
 use Rattle.std.proofs.Common.{ap, ◌∙◌, subst, ⊎_elim, arith, below_more, take, ◌++◌}
-use Rattle.std.specs.Prelude.{◌&&◌, ◌==◌}
-use Rattle.std.proofs.lemmas.Bool.{cases_eq, cases_lt, cond-true, cond-false, eq-eqb, eqb-true, ne_eqb}
+use Rattle.std.specs.Prelude.{◌&&◌, ◌||◌, ◌==◌}
+use Rattle.std.proofs.lemmas.Bool.{cases_lt, eq-eqb, eqb-true}
 use Rattle.std.proofs.lemmas.List.{take-append-le, take_all}
 use Rattle.rbbi_model.specs.Tables.{Table, RowHead, step}
 use Rattle.rbbi_model.specs.SafePairs.{IsSafePair, stored_bit}
 use Rattle.rbbi_table.specs.Parts.{rows_of, AreNextRows}
-use Rattle.rbbi_table.specs.inner.Targets.{AreTargets, LeadToOne}
+use Rattle.rbbi_table.specs.inner.Targets.{AreTargets, LeadToOne, AreFirstPairs}
 use Rattle.rbbi_table.specs.Pairs.{ArePairsOf}
 use Rattle.rbbi_table.proofs.MoveLemmas.{row_end}
-
--- the bits below a number are those of the safe pairs, and none is set from there on
-pub record AreFirstPairs (table : Table) (bytes : List ℕ) (count : ℕ) : Type 0 where
-  pub exactly : (first second : ℕ) → first < table.categories → second < table.categories → first * table.categories + second < count →
-      IsTrue (stored_bit bytes (first * table.categories + second)) ↔ IsSafePair table first second
-  pub none : (i : ℕ) → count ≤ i → ¬ IsTrue (stored_bit bytes i)
 
 -- a pair is safe where all rows that open rows lead to lead on to one
 pub safe_where_one : (table : Table) (first second : ℕ) (targets : List ℕ) → AreTargets table first targets →
@@ -75,60 +69,38 @@ marked_all cells width targets first marked some is all category low =
       λ lead. one.1 (λ i short. lead.1 i short ∙ sym (ap (λ n. get_or cells (n + category) 0) is ∙ lead.1 0 some)),
     )
 
--- two pairs with one number are the same
-same_pair : (width first second first' second' : ℕ) → second < width → second' < width → first * width + second ≡ first' * width + second' → (first ≡ first') ×
-    (second ≡ second')
-same_pair width first second first' second' low low' is =
-    ⊎_elim
-    (λ same. (same, omega (arith, is, ap (λ n. n * width) same)))
-    (λ other.
-    ⊎_elim
-    (λ less. absurd (omega (arith, is, row_end first first' width less, low, low')))
-    (λ most. absurd (omega (arith, is, row_end first' first width (let e : first' < first = omega arith in e), low, low')))
-    (cases_lt first first'))
-    (cases_eq first first')
+or_false : (a b : Bool) → b ≡ false → (a || b) ≡ a
+or_false true b none = refl
+or_false false b none = none
 
--- one more pair that is safe
-pub pair_set : (table : Table) (old new : List ℕ) (first second : ℕ) → second < table.categories → AreFirstPairs table old (first * table.categories + second) →
-    IsSafePair table first second →
-    ((i : ℕ) → stored_bit new i ≡ cond (eqb i (first * table.categories + second)) true (stored_bit old i)) →
-    AreFirstPairs table new (first * table.categories + second + 1)
-pair_set table old new first second low pairs safe bits =
-    let at : ℕ = first * table.categories + second in
-    let other_bit = λ (i : ℕ) (ne : i ≢ at). bits i ∙ cond-false (eqb i at) true (stored_bit old i) (ne_eqb i at ne) in
-    record {
-      exactly = λ f s f_low s_low short.
-          ⊎_elim
-          (λ same.
-          let pair = same_pair table.categories f s first second s_low low same in (
-            λ _. subst (λ n. IsSafePair table n s) (sym pair.0) (subst (λ n. IsSafePair table first n) (sym pair.1) safe),
-            λ _. bits (f * table.categories + s) ∙ cond-true (eqb (f * table.categories + s) at) true (stored_bit old (f * table.categories + s))
-                (eq-eqb (f * table.categories + s) at same),
-          ))
-          (λ other.
-          subst (λ b. IsTrue b ↔ IsSafePair table f s) (sym (other_bit (f * table.categories + s) other)) (pairs.exactly f s f_low s_low (omega arith)))
-          (cases_eq (f * table.categories + s) at);
-      none = λ i past is. pairs.none i (omega arith) (sym (other_bit i (λ same. omega (arith, past, same))) ∙ is);
-    }
+not_true : (b : Bool) → ¬ IsTrue b → b ≡ false
+not_true true isnt = absurd (isnt refl)
+not_true false isnt = refl
 
--- one more pair that isn't
-pub pair_unset : (table : Table) (bytes : List ℕ) (first second : ℕ) → second < table.categories →
-    AreFirstPairs table bytes (first * table.categories + second) → ¬ IsSafePair table first second →
-    AreFirstPairs table bytes (first * table.categories + second + 1)
-pair_unset table bytes first second low pairs unsafe =
-    let at : ℕ = first * table.categories + second in
-    record {
-      exactly = λ f s f_low s_low short.
-          ⊎_elim
-          (λ same.
-          let pair = same_pair table.categories f s first second s_low low same in (
-            λ is. absurd (pairs.none (f * table.categories + s) (omega (arith, same)) is),
-            λ safe. absurd (unsafe (subst (λ n. IsSafePair table first n) pair.1 (subst (λ n. IsSafePair table n s) pair.0 safe))),
-          ))
-          (λ other. pairs.exactly f s f_low s_low (omega arith))
-          (cases_eq (f * table.categories + s) at);
-      none = λ i past. pairs.none i (omega arith);
-    }
+-- the pairs of one more first category
+pub pairs_more : (table : Table) (old new : List ℕ) (first : ℕ) (marked : List Bool) → first < table.categories →
+    AreFirstPairs table old (first * table.categories) → length marked ≡ table.categories →
+    ((second : ℕ) → second < table.categories → IsTrue (get_or marked second false) ↔ IsSafePair table first second) →
+    ((i : ℕ) → i < first * table.categories → stored_bit new i ≡ stored_bit old i) →
+    ((k : ℕ) → k < length marked → stored_bit new (first * table.categories + k) ≡ (get_or marked k false || stored_bit old (first * table.categories + k))) →
+    ((i : ℕ) → first * table.categories + length marked ≤ i → stored_bit new i ≡ stored_bit old i) →
+    AreFirstPairs table new ((first + 1) * table.categories)
+pairs_more table old new first marked within pairs long marks before here behind = record {
+  exactly = λ f s f_low s_low short.
+      ⊎_elim
+      (λ less.
+      let at : f * table.categories + s < first * table.categories = omega (arith, row_end f first table.categories less, s_low) in
+      subst (λ b. IsTrue b ↔ IsSafePair table f s) (sym (before (f * table.categories + s) at)) (pairs.exactly f s f_low s_low at))
+      (λ most.
+      let same : f ≡ first = omega (arith, most, ⊎_elim (λ more. absurd (omega (arith, row_end first f table.categories more, short))) (λ up. up) (cases_lt first f)) in
+      let at : first * table.categories + s ≡ f * table.categories + s = ap (λ n. n * table.categories + s) (sym same) in
+      let unset = not_true (stored_bit old (first * table.categories + s)) (pairs.none (first * table.categories + s) (omega arith)) in
+      let bit : stored_bit new (f * table.categories + s) ≡ get_or marked s false =
+      ap (stored_bit new) (sym at) ∙ here s (omega (arith, long, s_low)) ∙ or_false (get_or marked s false) _ unset in
+      subst (λ b. IsTrue b ↔ IsSafePair table f s) (sym bit) (subst (λ n. IsTrue (get_or marked s false) ↔ IsSafePair table n s) (sym same) (marks s s_low)))
+      (cases_lt f first);
+  none = λ i past is. pairs.none i (omega (arith, past)) (sym (behind i (omega (arith, past, long))) ∙ is);
+}
 
 -- the rows that open rows lead to are rows, and have a next row for each category
 pub targets_within : (width : ℕ) (rows : List RowHead) (cells : List ℕ) (category : ℕ) (targets : List ℕ) → AreNextRows width rows cells →

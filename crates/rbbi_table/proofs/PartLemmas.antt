@@ -1,6 +1,6 @@
 -- A table whose parts are all valid, and the stored bits against those of the rows.
 use Rattle.std.proofs.Common.{◌≡◌, ℕ, suc, zero, ◌+◌, ◌*◌, ◌/◌, ◌%◌, ◌<◌, eqb, List, [], ◌∷◌, length}
-use Rattle.std.proofs.Common.{get_or, sym, ap, ◌∙◌, subst, ⊎_elim, arith}
+use Rattle.std.proofs.Common.{get_or, sym, ap, ◌∙◌, subst, ⊎_elim, arith, ◌≤◌, ◌↔◌}
 use Rattle.std.specs.List.{AllByRecursion}
 use Rattle.std.specs.Int.{bit_at}
 use Rattle.std.proofs.lemmas.Bool.{cases_lt}
@@ -11,8 +11,8 @@ use Rattle.std.proofs.Math.Nat.{div-lt_iff_lt-mul}
 use Rattle.rbbi_model.specs.Places.{has_bit}
 use Rattle.rbbi_model.specs.Tables.{Table}
 use Rattle.rbbi_model.specs.SafePairs.{stored_bit}
-use Rattle.rbbi_model.specs.ValidTables.{AreValidRanges, AreValidLists, AreValidRows, AreFronted, AreValidSafePairs, IsValidTable}
-use Rattle.rbbi_table.specs.Parts.{HasFittingParts, rows_of}
+use Rattle.rbbi_model.specs.ValidTables.{AreValidRanges, AreValidSafePairs, IsValidTable}
+use Rattle.rbbi_table.specs.Parts.{HasFittingParts, AreValidParts, rows_of}
 use Rattle.rbbi_table.specs.Pairs.{ArePairsOf}
 use Rattle.rbbi_table.specs.Blocks.{AreBlocks, in_block}
 use Rattle.rbbi_table.specs.Kept.{AreMoves, IsWholeKept}
@@ -24,28 +24,16 @@ pub all_bytes : (bytes : List ℕ) → ((i : ℕ) → get_or bytes i 0 < 256) �
 all_bytes [] small = tt
 all_bytes (byte ∷ bytes) small = (small zero, all_bytes bytes (λ i. small (suc i)))
 
--- the parts of a table before its safe pairs are valid, and the bytes are those of the safe pairs of its rows
-pub record AreChecked (table : Table) (bytes : List ℕ) : Type 0 where
-  pub ranges : AreValidRanges table.categories table.ranges
-  pub lists : AreValidLists table.lists
-  pub rows : AreValidRows table
-  pub fronts : AreFronted table
-  pub pairs : ArePairsOf (rows_of table.categories table.rows table.cells bytes)
-  pub small : (i : ℕ) → get_or bytes i 0 < 256
-  pub stored : (i : ℕ) → get_or table.safe i 0 < 256
-
--- the table is valid where these bytes are stored
-pub valid_table : {table : Table} {bytes : List ℕ} → HasFittingParts table → AreChecked table bytes → bytes ≡ table.safe → IsValidTable table
-valid_table {table} {bytes} fitting checked same =
-    let own = subst (λ (l : List ℕ). ArePairsOf (rows_of table.categories table.rows table.cells l)) same checked.pairs in
-    record {
-      well_formed = record { cells = fitting.cells; safe = fitting.safe; bytes = all_bytes table.safe checked.stored };
-      ranges = checked.ranges;
-      lists = checked.lists;
-      rows = checked.rows;
-      fronts = checked.fronts;
-      safe = record { exactly = own.pairs.exactly; filling = own.pairs.filling };
-    }
+-- valid parts make a valid table where what is stored as a byte is one
+pub valid_table : {table : Table} → AreValidParts table → ((i : ℕ) → get_or table.safe i 0 < 256) → IsValidTable table
+valid_table {table} valid stored = record {
+  well_formed = record { cells = valid.fitting.cells; safe = valid.fitting.safe; bytes = all_bytes table.safe stored };
+  ranges = valid.ranges;
+  lists = valid.lists;
+  rows = valid.rows;
+  fronts = valid.fronts;
+  safe = valid.safe;
+}
 
 moves_kept : {table : Table} {moves : List ℕ} → AreMoves (rows_of table.categories table.rows table.cells []) moves → AreMoves table moves
 moves_kept own = record {
@@ -105,23 +93,34 @@ same_bytes these those long small small' bits =
     (ap (λ n. has_bit (get_or these n 0) b) (sym byte) ∙ ap (λ n. has_bit (get_or these (i / 8) 0) n) (sym bit) ∙ is ∙
     ap (λ n. has_bit (get_or those n 0) (i % 8)) byte ∙ ap (λ n. has_bit (get_or those k 0) n) bit)))
 
--- the stored bytes are those of the rows where the stored bits are valid
-pub stored_are : {table : Table} {bytes : List ℕ} → HasFittingParts table → AreChecked table bytes → AreValidSafePairs table → bytes ≡ table.safe
-stored_are {table} {bytes} fitting checked stored =
-    let pairs = checked.pairs in
-    let some = checked.ranges.some_categories in
-    let long : length bytes ≡ length table.safe = pairs.all ∙ sym fitting.safe in
-    same_bytes bytes table.safe long checked.small checked.stored (λ i short.
-    ⊎_elim
-    (λ inside.
-    let first : ℕ = i / table.categories in
-    let second : ℕ = i % table.categories in
-    let low : second < table.categories = omega arith in
-    let split : first * table.categories + second ≡ i = omega arith in
-    let first_low : first < table.categories = (div-lt_iff_lt-mul (let e : 0 < table.categories = omega arith in e)).1 inside in
-    let own = pairs.pairs.exactly first second first_low low in
-    let other = stored.exactly first second first_low low in
-    subst (λ n. stored_bit bytes n ≡ stored_bit table.safe n) split (same_from_decides _ _ own other))
-    (λ past. same_from_decides {P = ⊥} _ _ (pairs.pairs.filling i past short, λ none. absurd none)
-    (stored.filling i past (omega (arith, short, long)), λ none. absurd none))
-    (cases_lt i (table.categories * table.categories)))
+-- the bytes are those of the safe pairs of the table's rows, and what is stored as a byte is one
+pub record AreOwnPairs (table : Table) (bytes : List ℕ) : Type 0 where
+  pub pairs : ArePairsOf (rows_of table.categories table.rows table.cells bytes)
+  pub small : (i : ℕ) → get_or bytes i 0 < 256
+  pub stored : (i : ℕ) → get_or table.safe i 0 < 256
+
+-- the stored bytes are those of the rows exactly where the stored bits are valid
+pub stored_are : {table : Table} {bytes : List ℕ} → HasFittingParts table → 1 ≤ table.categories → AreOwnPairs table bytes →
+    (bytes ≡ table.safe) ↔ AreValidSafePairs table
+stored_are {table} {bytes} fitting some own_pairs = (
+  λ same.
+      let own = subst (λ (l : List ℕ). ArePairsOf (rows_of table.categories table.rows table.cells l)) same own_pairs.pairs in
+      record { exactly = own.pairs.exactly; filling = own.pairs.filling },
+  λ stored.
+      let pairs = own_pairs.pairs in
+      let long : length bytes ≡ length table.safe = pairs.all ∙ sym fitting.safe in
+      same_bytes bytes table.safe long own_pairs.small own_pairs.stored (λ i short.
+      ⊎_elim
+      (λ inside.
+      let first : ℕ = i / table.categories in
+      let second : ℕ = i % table.categories in
+      let low : second < table.categories = omega arith in
+      let split : first * table.categories + second ≡ i = omega arith in
+      let first_low : first < table.categories = (div-lt_iff_lt-mul (let e : 0 < table.categories = omega arith in e)).1 inside in
+      let own = pairs.pairs.exactly first second first_low low in
+      let other = stored.exactly first second first_low low in
+      subst (λ n. stored_bit bytes n ≡ stored_bit table.safe n) split (same_from_decides _ _ own other))
+      (λ past. same_from_decides {P = ⊥} _ _ (pairs.pairs.filling i past short, λ none. absurd none)
+      (stored.filling i past (omega (arith, short, long)), λ none. absurd none))
+      (cases_lt i (table.categories * table.categories))),
+)

@@ -17,7 +17,7 @@ pub(crate) const BLOCK: usize = 256;
 const BLOCKS: usize = (LAST_CODE_POINT as usize + 1) / BLOCK;
 
 /// The categories of all code points, in blocks of 256. Equal blocks are kept once.
-#[derive(Debug, Drop)]
+#[derive(Drop)]
 pub struct Blocks {
     /// For each block of code points, its number among the blocks that are kept.
     pub numbers: Vec<u16>,

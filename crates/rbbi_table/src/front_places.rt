@@ -13,7 +13,7 @@ use std::marker::Model;
 ///
 /// What an earlier search left in it is never read: in a valid table a search that completes a
 /// look-ahead rule has passed an end of its front before. So nothing is cleared between searches.
-#[derive(Debug, Drop)]
+#[derive(Drop)]
 pub struct FrontPlaces {
     pub(crate) places: Vec<u32>,
 }

@@ -6,10 +6,12 @@
 
 mod bits;
 mod blocks;
+mod checks;
 mod error;
 mod front_places;
 mod fronts;
 mod gather;
+mod kept;
 mod kinds;
 mod limits;
 mod list;

@@ -7,7 +7,7 @@ use std::marker::Model;
 
 /// A range of code points of one category. It reaches to the code point before the next range's
 /// start, the last one to U+10FFFF. Contracts see it as a `CategoryRange` of `rbbi_model`.
-#[derive(Clone, Copy, Debug, PartialEq, Eq)]
+#[derive(Clone, Copy, PartialEq, Eq)]
 pub struct RangeRow {
     /// The first code point.
     pub start: u32,
@@ -26,7 +26,7 @@ impl Model for RangeRow {
 }
 
 /// What is marked at a row. Contracts see it as a `RowHead` of `rbbi_model`.
-#[derive(Clone, Copy, Debug, PartialEq, Eq)]
+#[derive(Clone, Copy, PartialEq, Eq)]
 pub struct RowHead {
     /// 0 if no rule ends, 1 if some rule ends and no look-ahead rule, and `k + 2` if look-ahead
     /// rule `k` is completed.
@@ -58,7 +58,7 @@ impl Model for RowHead {
 
 /// The parts of a table, as a table file holds them. Contracts speak of the table that they are by
 /// `table_of`.
-#[derive(Debug, Drop)]
+#[derive(Drop)]
 pub struct Parts {
     /// How many categories there are.
     pub categories: u16,
@@ -76,7 +76,6 @@ pub struct Parts {
     /// number `first * categories + second`, eight a byte, the one of least value first.
     pub safe: ByteList,
 }
-
 /// A copy of the parts.
 pub(crate) fn copied(alloc: Global, parts: &Parts) -> Result<Parts, AllocError>
     ensures { IfOk result (λ copy. copy ≡ parts.now) }

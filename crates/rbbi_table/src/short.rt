@@ -21,7 +21,7 @@ const MOST_CATEGORIES: usize = 256;
 const NEAR: usize = 0x2_0000;
 
 /// What is kept beside a table with no look-ahead rules, if it isn't too large.
-#[derive(Debug, Drop)]
+#[derive(Drop)]
 pub(crate) struct Short {
     /// Row by row the list and the moves, or nothing, as `short_of` says.
     pub(crate) moves: Vec<u16>,

@@ -9,14 +9,10 @@ ghost use Rattle.rbbi_table.specs.Parts.{table_of, HasFittingParts, AreValidPart
 ghost use Rattle.rbbi_table.specs.Answers.{MakesTable};
 
 use crate::bits::has_stored;
-use crate::fronts::are_fronted;
-use crate::lists::are_valid_lists;
-use crate::moves::moves_of;
+use crate::checks::check_parts;
+use crate::kept::{Kept, kept_beside};
 use crate::parts::copied;
-use crate::ranges::are_valid_ranges;
-use crate::rows::are_valid_rows;
-use crate::safe::{are_same, safe_pairs};
-use crate::short::{Short, short_of};
+use crate::short::Short;
 use crate::{Blocks, Parts, RangeRow, RowHead, TableErr};
 use std::alloc::{AllocError, Global};
 use std::marker::Model;
@@ -25,7 +21,7 @@ use std::marker::Model;
 ///
 /// Beside the parts it keeps the categories of all code points in blocks, and the rows in one flat
 /// list for the loop of a search: a short one if the table has no look-ahead rules and isn't large.
-#[derive(Debug, Drop)]
+#[derive(Drop)]
 pub struct Table {
     pub(crate) parts: Parts,
     pub(crate) blocks: Blocks,
@@ -49,7 +45,7 @@ impl Model for Table {
 }
 
 impl Table {
-    /// The table of these parts.
+    /// The table of these parts, which may come from outside. They are copied.
     ///
     /// Refuses `BadRanges`, `BadLists`, `BadRows`, `BadFronts` or `BadSafe` if that part is the
     /// first that isn't valid. The checks of fronts and safe pairs go over rows and categories,
@@ -58,53 +54,28 @@ impl Table {
         requires { HasFittingParts (table_of parts.now) }
         ensures { MakesTable (table_of parts.now) result }
     {
-        let rows = parts.rows.as_slice();
-        let cells = parts.cells.as_slice();
-        if !are_valid_ranges(parts.categories, parts.ranges.as_slice()) {
-            return Err(TableErr::BadRanges);
-        }
-        if !are_valid_lists(parts.lists.as_slice()) {
-            return Err(TableErr::BadLists);
-        }
-        if !are_valid_rows(parts) {
-            return Err(TableErr::BadRows);
-        }
-        let fronted = are_fronted(alloc, parts)?;
-        if !fronted {
-            return Err(TableErr::BadFronts);
-        }
-        let safe = safe_pairs(alloc, parts.categories, rows, cells)?;
-        let same = are_same(safe.as_slice(), parts.safe.as_slice());
-        if !same {
-            return Err(TableErr::BadSafe);
-        }
-        let blocks = Blocks::new(alloc, parts.ranges.as_slice())?;
-        let (slashes, categories) = (parts.slashes, parts.categories);
-        let short = short_of(alloc, slashes, categories, rows, cells, &blocks)?;
-        let moves = if short.moves.is_empty() {
-            moves_of(alloc, categories, rows, cells)?
-        } else {
-            Vec::new(alloc)
-        };
-        let parts = copied(alloc, parts)?;
+        check_parts(alloc, parts)?;
+        let copy = copied(alloc, parts)?;
+        Ok(Table::from_valid(alloc, copy)?)
+    }
+
+    /// The table of these parts, which are valid: nothing is checked or copied. Fails only if
+    /// memory runs out.
+    pub fn from_valid(alloc: Global, parts: Parts) -> Result<Table, AllocError>
+        requires { AreValidParts (table_of parts) }
+        ensures { IfOk result (λ table. (table ≡ table_of parts) × IsValidTable table) }
+    {
+        let Kept {
+            blocks,
+            moves,
+            short,
+        } = kept_beside(alloc, &parts)?;
         Ok(Table {
             parts,
             blocks,
             moves,
             short,
         })
-    }
-
-    /// The table of these parts, which are valid. Fails only if memory runs out.
-    pub fn from_valid(alloc: Global, parts: &Parts) -> Result<Table, AllocError>
-        requires { AreValidParts (table_of parts.now) }
-        ensures { IfOk result (λ table. (table ≡ table_of parts.now) × IsValidTable table) }
-    {
-        match Table::from_parts(alloc, parts) {
-            Ok(table) => Ok(table),
-            Err(TableErr::Memory) => Err(AllocError),
-            Err(_) => unreachable!(),
-        }
     }
 
     /// That the table is valid: it is there for proofs, and does nothing when it runs.

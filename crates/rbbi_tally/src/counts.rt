@@ -8,7 +8,7 @@ use rbbi_table::Table;
 use std::alloc::{AllocError, Global};
 
 /// A value that is the largest status of some segments, and how many they are.
-#[derive(Clone, Copy, Debug, PartialEq, Eq)]
+#[derive(Clone, Copy, PartialEq, Eq)]
 pub struct ValueCount {
     /// The value.
     pub value: u32,

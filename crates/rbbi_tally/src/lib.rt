@@ -7,14 +7,13 @@
 mod commit;
 mod counts;
 mod edit;
+mod keeping;
 mod kept;
 mod open;
-mod paused;
 mod piece;
 mod search;
 mod spot;
 mod tally;
 
 pub use counts::{Counts, ValueCount};
-pub use paused::Paused;
-pub use tally::Tally;
+pub use tally::{Tally, TallyBy};

@@ -8,10 +8,11 @@ ghost use Rattle.rbbi_tally.specs.Tallies.{boundaries_of, EditAnswers, EditReads
 use crate::commit::commit;
 use crate::counts::{Counts, count_of, total, values_of};
 use crate::edit::Edit;
+use crate::keeping::Counted;
 use crate::open::segments_of;
-use crate::paused::Counted;
 use crate::search::search_again;
 use crate::spot::{first_reaching, place_at};
+use rbbi_session::Holds;
 use rbbi_table::Table;
 use rbbi_text::{EditErr, EditText, Steps, check_edit};
 use std::alloc::{AllocError, Global};
@@ -28,13 +29,16 @@ use std::sync::ledger::Ledger;
 /// boundary, and room for 512 further ones with each 1,536. Room for what an edit may find stays
 /// with the tally: eight bytes for each character of the longest rest of the text that an edit
 /// had, and up to twice that once it has grown.
+pub type Tally<'a, T> = TallyBy<&'a Table, T>;
+
+/// A [`Tally`] by a table that is borrowed or shared.
 #[derive(Drop)]
-pub struct Tally<'a, T: EditText> {
-    pub(crate) table: &'a Table,
-    pub(crate) counted: Box<Counted<T>>,
+pub struct TallyBy<H: Holds, T: EditText> {
+    table: H,
+    counted: Box<Counted<T>>,
 }
 
-impl<'a, T: EditText> Model for Tally<'a, T> {
+impl<H: Holds, T: EditText> Model for TallyBy<H, T> {
     ghost use Rattle.rbbi_tally.specs.Tallies.{Tally};
 
     ghost Value = { Tally };
@@ -42,31 +46,31 @@ impl<'a, T: EditText> Model for Tally<'a, T> {
     ghost use Rattle.rbbi_tally.specs.inner.Tallied.{IsTallied};
 
     ghost view = { λ tally. record {
-      table = tally.table.now;
+      table = H.table_of tally.table;
       text = T.characters tally.counted.value.text;
     } };
 
     ghost invariant = { λ tally. let counted = tally.counted.value in
-        IsTallied tally.table.now (T.characters counted.text) counted.pieces.items
+        IsTallied (H.table_of tally.table) (T.characters counted.text) counted.pieces.items
         counted.counts.items counted.marks };
 }
 
-impl<'a, T: EditText + Drop> Tally<'a, T> {
+impl<H: Holds + Drop, T: EditText + Drop> TallyBy<H, T> {
     /// The counts of a text. After the refusal the text is dropped.
     ///
     /// It searches from each boundary once, and so reads each character about once.
     pub fn open<L: Ledger>(
         alloc: Global,
-        table: &'a Table,
+        table: H,
         text: T,
         steps: &mut Steps<L>,
-    ) -> Result<Tally<'a, T>, AllocError>
-        ensures opened { IfOk result (λ tally. (tally.table ≡ table.now)
+    ) -> Result<TallyBy<H, T>, AllocError>
+        ensures opened { IfOk result (λ tally. (tally.table ≡ H.table_of table)
             × (tally.text ≡ T.characters text)) }
-        ensures reads { RisesUpTo (opening_cost table.now (T.characters text))
+        ensures reads { RisesUpTo (opening_cost (H.table_of table) (T.characters text))
             steps.old steps.new }
     {
-        let opened = segments_of(alloc, table, &text, steps)?;
+        let opened = segments_of(alloc, table.table(), &text, steps)?;
         let counted = Counted {
             text,
             pieces: opened.pieces,
@@ -76,13 +80,13 @@ impl<'a, T: EditText + Drop> Tally<'a, T> {
             alloc,
         };
         match Box::new(alloc, counted) {
-            Ok(counted) => Ok(Tally { table, counted }),
+            Ok(counted) => Ok(TallyBy { table, counted }),
             Err(_) => Err(AllocError),
         }
     }
 }
 
-impl<'a, T: EditText> Tally<'a, T> {
+impl<H: Holds, T: EditText> TallyBy<H, T> {
     /// Puts the characters of `insert` in place of `remove` characters from `at` on, and counts
     /// again what that touches.
     ///
@@ -102,7 +106,8 @@ impl<'a, T: EditText> Tally<'a, T> {
         ensures reads { EditReads self.old at remove (chars insert.now) result
             steps.old steps.new }
     {
-        self.table.valid();
+        let table = self.table.table();
+        table.valid();
         let counted = &mut *self.counted;
         let end = counted.text.len();
         let inserted = check_edit(end as usize, at, remove, insert)?;
@@ -121,7 +126,7 @@ impl<'a, T: EditText> Tally<'a, T> {
         counted.pieces.reserve(1)?;
         counted.text.replace(at, remove, insert)?;
         let met = search_again(
-            self.table,
+            table,
             &counted.text,
             &counted.pieces,
             first,
@@ -149,7 +154,8 @@ impl<'a, T: EditText> Tally<'a, T> {
     pub fn segments(&self) -> u32
         ensures { result ≡ segment_count (boundaries_of self.now) }
     {
-        self.table.valid();
+        let table = self.table.table();
+        table.valid();
         let counted = &*self.counted;
         let _short = counted.text.len();
         total(&counted.counts)
@@ -159,10 +165,11 @@ impl<'a, T: EditText> Tally<'a, T> {
     pub fn count(&self, value: u32) -> u32
         ensures { result ≡ count (boundaries_of self.now) value }
     {
-        self.table.valid();
+        let table = self.table.table();
+        table.valid();
         let counted = &*self.counted;
         let _short = counted.text.len();
-        count_of(self.table, &counted.counts, value)
+        count_of(table, &counted.counts, value)
     }
 
     /// The values that some segment has as the largest of its statuses, by rising values, each with
@@ -170,10 +177,11 @@ impl<'a, T: EditText> Tally<'a, T> {
     pub fn each(&self, alloc: Global) -> Result<Counts, AllocError>
         ensures { IfOk result (λ counts. AreCounts (boundaries_of self.now) counts.items) }
     {
-        self.table.valid();
+        let table = self.table.table();
+        table.valid();
         let counted = &*self.counted;
         let _short = counted.text.len();
-        values_of(alloc, self.table, &counted.counts)
+        values_of(alloc, table, &counted.counts)
     }
 
     /// The text as it is now.

@@ -11,7 +11,7 @@ use std::marker::Model;
 use std::sync::ledger::Ledger;
 
 /// How the characters of a text are kept.
-#[derive(Debug, Drop)]
+#[derive(Drop)]
 pub enum Form {
     /// All are ASCII, and take a byte each.
     Ascii(AsciiText),
@@ -23,7 +23,7 @@ pub enum Form {
 ///
 /// Each form is a text of its own, so that a search over it doesn't ask at each character which it
 /// is.
-#[derive(Debug, Drop)]
+#[derive(Drop)]
 pub struct FileText {
     form: Form,
 }

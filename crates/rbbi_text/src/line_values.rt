@@ -12,7 +12,7 @@ use std::alloc::{AllocError, Global};
 use std::marker::Model;
 
 /// What a line of a file is.
-#[derive(Debug, Drop)]
+#[derive(Drop)]
 pub enum Line<V> {
     /// The line is skipped.
     Skipped,
@@ -34,7 +34,7 @@ pub trait LineValue: Drop + Sized {
 }
 
 /// The values of the lines of a file, in order. Contracts see it as their list.
-#[derive(Debug, Drop)]
+#[derive(Drop)]
 pub struct Values<V> {
     items: Vec<V>,
 }

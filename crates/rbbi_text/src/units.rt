@@ -6,7 +6,7 @@ ghost use Rattle.rbbi_text.specs.Indexes.{IsIndex};
 use crate::{Chars, EditText, Unit};
 
 /// The place at an offset, or the last one before it.
-#[derive(Clone, Copy, Debug, PartialEq, Eq)]
+#[derive(Clone, Copy, PartialEq, Eq)]
 pub struct Index {
     /// The greatest place that doesn't lie past the offset, in characters from 0.
     pub at: u32,

@@ -1,25 +1,26 @@
-//! The syntax trees of a rule file.
+//! The syntax trees of a rule file. At most 64 brackets are open at once, so at most 65 expressions
+//! or sets stand in one another.
 ghost use Rattle.std.specs.Prelude.{◌≡◌, ◌<◌, length, slice_get};
 
 use rbbi_text::Word;
 use std::marker::Model;
 
 /// Alternatives: one sequence, or several with `|` between them.
-#[derive(Debug, Drop)]
+#[derive(Drop)]
 #[cycle(syntax)]
 pub struct Expr {
     pub items: Vec<Seq>,
 }
 
 /// Items that follow one another, at least one.
-#[derive(Debug, Drop)]
+#[derive(Drop)]
 #[cycle(syntax)]
 pub struct Seq {
     pub items: Vec<Item>,
 }
 
 /// An atom, how often it stands, and its place: that of its first token, in characters from 0.
-#[derive(Debug, Drop)]
+#[derive(Drop)]
 #[cycle(syntax)]
 pub struct Item {
     pub place: u32,
@@ -28,7 +29,7 @@ pub struct Item {
 }
 
 /// What stands at one place of a sequence.
-#[derive(Debug, Drop)]
+#[derive(Drop)]
 #[cycle(syntax)]
 pub enum Atom {
     /// A character that stands for itself. It is bare where it is written without a quote or an
@@ -56,7 +57,7 @@ pub enum Atom {
 }
 
 /// How often an atom stands.
-#[derive(Debug, Clone, Copy, PartialEq, Eq)]
+#[derive(Clone, Copy, PartialEq, Eq)]
 pub enum Quant {
     /// Once, where nothing follows the atom.
     Once,
@@ -72,7 +73,7 @@ pub enum Quant {
 ///
 /// Its value is found from the left, starting empty, each part joined in turn; a negated set is the
 /// complement of that.
-#[derive(Debug, Drop)]
+#[derive(Drop)]
 #[cycle(sets)]
 pub struct SetExpr {
     pub place: u32,
@@ -81,7 +82,7 @@ pub struct SetExpr {
 }
 
 /// The parts of a set, from left to right.
-#[derive(Debug, Drop)]
+#[derive(Drop)]
 #[cycle(sets)]
 pub struct Parts {
     pub items: Vec<SetPart>,
@@ -89,7 +90,7 @@ pub struct Parts {
 
 /// A part of a set: how it is joined with what stands before it, and its place, that of its item's
 /// first token in characters from 0.
-#[derive(Debug, Drop)]
+#[derive(Drop)]
 #[cycle(sets)]
 pub struct SetPart {
     pub place: u32,
@@ -98,7 +99,7 @@ pub struct SetPart {
 }
 
 /// How a part of a set is joined with what stands before it.
-#[derive(Debug, Clone, Copy, PartialEq, Eq)]
+#[derive(Clone, Copy, PartialEq, Eq)]
 pub enum Join {
     /// Its members are added.
     Add,
@@ -109,7 +110,7 @@ pub enum Join {
 }
 
 /// What is joined to a set.
-#[derive(Debug, Drop)]
+#[derive(Drop)]
 #[cycle(sets)]
 pub enum SetItem {
     /// A character.
@@ -129,7 +130,7 @@ pub enum SetItem {
 }
 
 /// A statement of a rule file. Places are in characters from 0.
-#[derive(Debug, Drop)]
+#[derive(Drop)]
 pub enum Statement {
     /// A `;` with nothing before it.
     Nothing,
@@ -158,7 +159,7 @@ pub enum Statement {
 }
 
 /// The statements of a rule file, from first to last. Contracts see it as their list.
-#[derive(Debug, Drop)]
+#[derive(Drop)]
 pub struct Statements {
     items: Vec<Statement>,
 }

@@ -1,7 +1,7 @@
 //! Questions, and their answers read off a whole list of boundaries.
 
 /// A question.
-#[derive(Clone, Copy, Debug, PartialEq, Eq)]
+#[derive(Clone, Copy, PartialEq, Eq)]
 pub(crate) enum Question {
     First,
     Last,
@@ -13,14 +13,14 @@ pub(crate) enum Question {
 }
 
 /// A boundary: its place and the number of its status list.
-#[derive(Clone, Copy, Debug)]
+#[derive(Clone, Copy)]
 pub(crate) struct Boundary {
     pub(crate) at: u32,
     pub(crate) status: u16,
 }
 
 /// The reply to a question, and where the cursor is then.
-#[derive(Clone, Copy, Debug, PartialEq, Eq)]
+#[derive(Clone, Copy, PartialEq, Eq)]
 pub(crate) struct Answer {
     /// The place, or None where there is none; of a test 1 for yes and 0 for no.
     pub(crate) reply: Option<u32>,

@@ -8,7 +8,7 @@ mod system;
 
 use crate::system::{Noting, RealSystem};
 use rbbi_io::{RealFiles, RealSink, words};
-use rbbi_segment::{Sizes, Surroundings, segment};
+use rbbi_segment::{CommandLine, Sizes, Surroundings, segment};
 use rbbi_text::Steps;
 use std::cell::Cell;
 use std::io::{ErrorKind, IsTerminal};
@@ -56,9 +56,10 @@ fn run<L: Ledger>(rt: &HostRuntime, words: &Vec<String>, blank: Blank) -> u8
     let system = RealSystem { rt, fault: &fault };
     let mut errors = RealSink::new(rt.stderr());
     let mut steps = Steps::<L>::new(rt, blank);
+    let line = CommandLine::parse(rt.alloc(), words);
     segment(
         rt.alloc(),
-        words,
+        &line,
         surroundings(rt),
         &system,
         &mut files,
@@ -71,10 +72,12 @@ fn run<L: Ledger>(rt: &HostRuntime, words: &Vec<String>, blank: Blank) -> u8
 
 /// Why there are no arguments.
 fn refusal(fault: &io::Error) -> &'static str {
-    if fault.kind() == ErrorKind::InvalidData {
-        "an argument isn't UTF-8: give a file of such a name as standard input, segment < FILE"
-    } else {
-        "the system doesn't give the arguments"
+    match fault.kind() {
+        ErrorKind::InvalidData => {
+            "an argument isn't UTF-8: give a file of such a name as standard input, segment < FILE"
+        }
+        ErrorKind::OutOfMemory => "memory ran out",
+        _ => "the system doesn't give the arguments",
     }
 }
 

@@ -1,10 +1,10 @@
-//! Why the system's files and output fail.
+//! The system's files, and why the output fails.
 
 use rbbi_segment::System;
 use std::cell::Cell;
 use std::fs::File;
 use std::io;
-use std::io::{Read, Write};
+use std::io::Write;
 
 /// A writer that notes why it fails.
 #[derive(Drop)]
@@ -43,14 +43,6 @@ impl<'a, R: std::rt::Files> System for RealSystem<'a, R> {
 
     fn open(&self, name: &str) -> io::Result<Self::Reader> {
         File::open(self.rt, name)
-    }
-
-    /// The file is tried again.
-    fn unread(&self, name: &str) -> Option<io::Error> {
-        match File::open(self.rt, name) {
-            Ok(mut file) => file.read(&mut [0u8; 1]).err(),
-            Err(fault) => Some(fault),
-        }
     }
 
     fn unwritten(&self) -> Option<io::Error> {

@@ -42,11 +42,11 @@ class Unit(enum.IntEnum):
     UTF8 = 1
     """Bytes of UTF-8."""
     UTF16 = 2
-    """Numbers of 16 bits of UTF-16."""
+    """16-bit units of UTF-16."""
 
 
 class Segment(NamedTuple):
-    """What stands between two neighbouring boundaries, and the greatest status of its end."""
+    """The characters between two neighbouring boundaries, with the largest status of the later one."""
     start: int
     end: int
     status: int
@@ -63,7 +63,7 @@ class Change(NamedTuple):
 
 
 class Boundaries(NamedTuple):
-    """Boundaries in order, each with its greatest status, as two arrays of the type code `I`."""
+    """Boundaries in order, each with its largest status, as two arrays of the type code `I`."""
     places: array[int]
     statuses: array[int]
 
@@ -80,7 +80,7 @@ def _bytes(text: Text) -> bytes:
 
 
 _UTF16 = ('B', 'b', 'c', 'H', '<H' if sys.byteorder == 'little' else '>H')
-"""The formats of a buffer of UTF-16: bytes, and numbers of 16 bits in this machine's byte order."""
+"""The formats of a buffer of UTF-16: bytes, and 16-bit units in this machine's byte order."""
 
 
 def _units(units: Any) -> tuple[Any, int]:
@@ -179,7 +179,10 @@ class Table(_Closing):
 
     @classmethod
     def named(cls, name: str) -> Table:
-        """A table that is in the library: `grapheme`, `word`, `sentence` or `line`."""
+        """A table that is in the library: `grapheme`, `word`, `sentence` or `line`.
+
+        The first three are by UAX #29 of Unicode 18.0, the last by UAX #14 of 17.0 over data of 18.0.
+        """
         if '\0' in name:  # where the name would end for C
             raise Error(Answer.NAME)
         table = cls()
@@ -211,7 +214,7 @@ class Table(_Closing):
     def session_utf16(self, units: Any, unit: Unit = Unit.UTF16) -> Session:
         """A session over a text in UTF-16, of this machine's byte order, with places in a unit.
 
-        `units` is a buffer: an `array` of the type code `H`, or bytes. Raises `LoneSurrogate` where
+        `units` is a buffer: an `array` of the type code `H`, or bytes. Raises `LoneSurrogate` if
         a surrogate is in no pair.
         """
         return Session._over_utf16(self, units, unit)
@@ -230,7 +233,7 @@ class Session(_Closing):
     _close = LIBRARY.rbbi_session_close
 
     def __init__(self, table: Table, text: Text, unit: Unit = Unit.CHARS) -> None:
-        """Opens a session over a text. Raises `Error` where it has over 16,777,216 characters."""
+        """Opens a session over a text. Raises `Error` if it has over 16,777,216 characters."""
         self._begin()
         text, unit = _bytes(text), _unit(unit)
         with table._lock:
@@ -260,7 +263,7 @@ class Session(_Closing):
         return copy
 
     def suppress(self, abbreviations: Text) -> None:
-        """From now on no boundary is told before which an abbreviation stands, as `Mr.`.
+        """From now on a boundary after an abbreviation, such as `Mr.`, isn't reported.
 
         `abbreviations` is a file of them, one a line (docs/formats.md). The cursor goes to 0. From
         then on `fork`, `replace_changed`, `segment`, `boundaries`, `boundaries_before` and a second
@@ -269,7 +272,7 @@ class Session(_Closing):
         self._filter(LIBRARY.rbbi_session_suppress, _bytes(abbreviations))
 
     def tailor(self, pairs: Text) -> None:
-        """From now on boundaries are those of the text with its characters turned by pairs.
+        """From now on boundaries are those of the text with its characters mapped by pairs.
 
         `pairs` is a file of them, one a line (docs/formats.md). Else it is as `suppress`.
         """
@@ -294,7 +297,7 @@ class Session(_Closing):
         checked(answer)
         return None
 
-    def _told(self, call: Callable[..., int]) -> int:
+    def _number_of(self, call: Callable[..., int]) -> int:
         """The number of a call that always has one."""
         number = self._asked(call)
         assert number is not None
@@ -302,11 +305,11 @@ class Session(_Closing):
 
     def first(self) -> int:
         """The first boundary, which is 0."""
-        return self._told(LIBRARY.rbbi_session_first)
+        return self._number_of(LIBRARY.rbbi_session_first)
 
     def last(self) -> int:
         """The last boundary, which is the length."""
-        return self._told(LIBRARY.rbbi_session_last)
+        return self._number_of(LIBRARY.rbbi_session_last)
 
     def next(self) -> Optional[int]:
         """The boundary after the cursor."""
@@ -330,14 +333,14 @@ class Session(_Closing):
 
     def current(self) -> int:
         """Where the cursor is."""
-        return self._told(LIBRARY.rbbi_session_current)
+        return self._number_of(LIBRARY.rbbi_session_current)
 
     def status(self) -> int:
-        """The greatest status of the boundary at the cursor."""
-        return self._told(LIBRARY.rbbi_session_status)
+        """The largest status of the boundary at the cursor."""
+        return self._number_of(LIBRARY.rbbi_session_status)
 
     def statuses(self) -> list[int]:
-        """All statuses of the boundary at the cursor, which rise."""
+        """All statuses of the boundary at the cursor, in increasing order."""
         room, count = (ctypes.c_uint32 * 8)(), ctypes.c_size_t()
         with self._lock:
             call = LIBRARY.rbbi_session_statuses
@@ -350,12 +353,12 @@ class Session(_Closing):
 
     def length(self) -> int:
         """The length of the text, in the unit."""
-        return self._told(LIBRARY.rbbi_session_length)
+        return self._number_of(LIBRARY.rbbi_session_length)
 
     def replace(self, at: int, remove: int, insert: Text) -> None:
-        """Puts `insert` in place of `remove` units from `at` on, and the cursor at 0.
+        """Replaces `remove` units from `at` on by `insert`, and sets the cursor to 0.
 
-        Raises `Error` where the edit reaches past the end, or begins or ends inside of a character.
+        Raises `Error` if the edit reaches past the end, or begins or ends inside a character.
         """
         insert = _bytes(insert)
         with self._lock:
@@ -363,7 +366,7 @@ class Session(_Closing):
                                                  len(insert)))
 
     def replace_changed(self, at: int, remove: int, insert: Text) -> Change:
-        """The same edit, which tells what it changed: what an editor is to draw again.
+        """The same edit, which returns what it changed: what an editor is to draw again.
 
         That is the least range that has the edit in it and outside of which boundaries are as before.
         """
@@ -374,9 +377,9 @@ class Session(_Closing):
         return Change(change.start, change.old_end, change.new_end)
 
     def replace_utf16(self, at: int, remove: int, units: Any) -> None:
-        """Puts a text in UTF-16 in place of `remove` units from `at` on, and the cursor at 0.
+        """Replaces `remove` units from `at` on by a text in UTF-16, and sets the cursor to 0.
 
-        `units` is a buffer, as that of `Table.session_utf16`. Raises `LoneSurrogate` where a
+        `units` is a buffer, as that of `Table.session_utf16`. Raises `LoneSurrogate` if a
         surrogate is in no pair, and `Error` as `replace` does.
         """
         (room, count), lone = _units(units), ctypes.c_uint32()
@@ -388,7 +391,7 @@ class Session(_Closing):
     def text(self, start: int = 0, end: Optional[int] = None) -> str:
         """The text from a place to another, or to its end.
 
-        Raises `Error` where one of them is past the end or inside of a character, or `end` is before
+        Raises `Error` if one of them is past the end or inside a character, or `end` is before
         `start`.
         """
         end = self.length() if end is None else end
@@ -467,22 +470,22 @@ class Session(_Closing):
 class Tally(_Closing):
     """How many segments of a text have each status, kept while the text is edited.
 
-    A segment lies between two neighbouring boundaries, and counts under the greatest status of its
+    A segment lies between two neighbouring boundaries, and counts under the largest status of its
     end.
     """
     _close = LIBRARY.rbbi_tally_close
 
     def __init__(self, table: Table, text: Text, unit: Unit = Unit.CHARS) -> None:
-        """Opens a tally. Raises `Error` where the text has over 16,777,216 characters."""
+        """Opens a tally. Raises `Error` if the text has over 16,777,216 characters."""
         super().__init__()
         text, unit = _bytes(text), _unit(unit)
         with table._lock:
             checked(LIBRARY.rbbi_tally_open(self._ref, table._ref, text, len(text), unit))
 
     def replace(self, at: int, remove: int, insert: Text) -> None:
-        """Puts `insert` in place of `remove` units from `at` on, and counts again what that touches.
+        """Replaces `remove` units from `at` on by `insert`, and counts again what that touches.
 
-        Raises `Error` where the edit reaches past the end, or begins or ends inside of a character.
+        Raises `Error` if the edit reaches past the end, or begins or ends inside a character.
         """
         insert = _bytes(insert)
         with self._lock:

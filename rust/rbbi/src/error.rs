@@ -42,7 +42,7 @@ pub enum Error {
     Zero,
     /// An edit reaches past the end of the text.
     Outside,
-    /// An edit begins or ends inside of a character.
+    /// An edit begins or ends inside a character.
     Inside,
     /// A text would have more than 16,777,216 characters, or a file is too long.
     TooLong,
@@ -109,8 +109,8 @@ pub(crate) fn checked_utf16(call: impl FnOnce(*mut u32) -> c_int) -> Result<(), 
     }
 }
 
-/// Makes a call that may tell a fault, and refuses an answer that is an error.
-pub(crate) fn told(call: impl FnOnce(*mut rbbi_fault) -> c_int) -> Result<(), Error> {
+/// Makes a call that may write a fault, and refuses an answer that is an error.
+pub(crate) fn with_fault(call: impl FnOnce(*mut rbbi_fault) -> c_int) -> Result<(), Error> {
     let mut fault = rbbi_fault {
         name: [0; 40],
         line: 0,
@@ -121,7 +121,7 @@ pub(crate) fn told(call: impl FnOnce(*mut rbbi_fault) -> c_int) -> Result<(), Er
     if answer != rbbi_sys::RBBI_FAULT {
         return checked(answer);
     }
-    // SAFETY: the library ends the name of a fault that it tells with a zero.
+    // SAFETY: the library ends the name of a fault that it writes with a zero.
     let name = unsafe { CStr::from_ptr(fault.name.as_ptr()) }
         .to_string_lossy()
         .into_owned();

@@ -1,5 +1,5 @@
 //! A text with a table and a cursor.
-use crate::error::{checked, checked_utf16, told, Error};
+use crate::error::{checked, checked_utf16, with_fault, Error};
 use rbbi_sys::{rbbi_change, rbbi_handle, RBBI_INIT, RBBI_OK, RBBI_ROOM};
 use std::ffi::c_int;
 
@@ -11,18 +11,18 @@ pub enum Unit {
     Chars = rbbi_sys::RBBI_CHARS,
     /// Bytes of UTF-8, as the places of a `str` do.
     Utf8 = rbbi_sys::RBBI_UTF8,
-    /// Numbers of 16 bits of UTF-16.
+    /// 16-bit units of UTF-16.
     Utf16 = rbbi_sys::RBBI_UTF16,
 }
 
-/// What stands between two neighbouring boundaries, and the greatest status of its end.
+/// The characters between two neighbouring boundaries, with the largest status of the later one.
 #[derive(Clone, Copy, Debug, PartialEq, Eq)]
 pub struct Segment {
     /// Where it begins.
     pub start: u32,
     /// Where it ends.
     pub end: u32,
-    /// The greatest status of its end.
+    /// The largest status of its end.
     pub status: u32,
 }
 
@@ -91,40 +91,40 @@ impl Session {
         Ok(copy)
     }
 
-    /// From now on no boundary is told before which an abbreviation stands, as `Mr.`. The cursor goes
+    /// From now on a boundary after an abbreviation, such as `Mr.`, isn't reported. The cursor goes
     /// to 0. `abbreviations` is a file of them, one a line (docs/formats.md). From then on `fork`,
     /// `replace_changed`, `segment`, `boundaries`, `boundaries_before` and a second filter refuse
     /// `Filtered`.
     pub fn suppress(&mut self, abbreviations: &[u8]) -> Result<(), Error> {
         let (file, length) = (abbreviations.as_ptr().cast(), abbreviations.len());
         // SAFETY: the handle holds a session, and the file is live.
-        told(|fault| unsafe {
+        with_fault(|fault| unsafe {
             rbbi_sys::rbbi_session_suppress(&mut self.handle, file, length, fault)
         })
     }
 
-    /// From now on boundaries are those of the text with its characters turned by pairs. `pairs` is a
+    /// From now on boundaries are those of the text with its characters mapped by pairs. `pairs` is a
     /// file of them, one a line (docs/formats.md). Else it is as `suppress`.
     pub fn tailor(&mut self, pairs: &[u8]) -> Result<(), Error> {
         let (file, length) = (pairs.as_ptr().cast(), pairs.len());
         // SAFETY: as in `suppress`.
-        told(|fault| unsafe {
+        with_fault(|fault| unsafe {
             rbbi_sys::rbbi_session_tailor(&mut self.handle, file, length, fault)
         })
     }
 
     fn asked(&mut self, question: Question) -> Option<u32> {
-        let mut told = 0;
+        let mut number = 0;
         // SAFETY: the handle holds a session, and the number is live.
-        let answer = unsafe { question(&mut self.handle, &mut told) };
-        (answer == RBBI_OK).then_some(told)
+        let answer = unsafe { question(&mut self.handle, &mut number) };
+        (answer == RBBI_OK).then_some(number)
     }
 
     fn asked_at(&mut self, question: QuestionAt, place: u32) -> Option<u32> {
-        let mut told = 0;
+        let mut number = 0;
         // SAFETY: as in `asked`.
-        let answer = unsafe { question(&mut self.handle, place, &mut told) };
-        (answer == RBBI_OK).then_some(told)
+        let answer = unsafe { question(&mut self.handle, place, &mut number) };
+        (answer == RBBI_OK).then_some(number)
     }
 
     /// The first boundary, which is 0.
@@ -168,12 +168,12 @@ impl Session {
         self.asked(rbbi_sys::rbbi_session_current).unwrap_or(0)
     }
 
-    /// The greatest status of the boundary at the cursor.
+    /// The largest status of the boundary at the cursor.
     pub fn status(&mut self) -> u32 {
         self.asked(rbbi_sys::rbbi_session_status).unwrap_or(0)
     }
 
-    /// All statuses of the boundary at the cursor, which rise.
+    /// All statuses of the boundary at the cursor, in increasing order.
     pub fn statuses(&mut self) -> Result<Vec<u32>, Error> {
         let (mut all, mut count) = (vec![0; 4], 0);
         loop {
@@ -194,9 +194,9 @@ impl Session {
         self.asked(rbbi_sys::rbbi_session_length).unwrap_or(0)
     }
 
-    /// Puts a string in place of `remove` units from `at` on, and the cursor at 0.
+    /// Replaces `remove` units from `at` on by a string, and sets the cursor to 0.
     ///
-    /// Refuses `Outside` past the end, `Inside` where it begins or ends inside of a character, and
+    /// Refuses `Outside` past the end, `Inside` where it begins or ends inside a character, and
     /// `TooLong` where the text would have more than 16,777,216 characters.
     pub fn replace(&mut self, at: u32, remove: u32, insert: &str) -> Result<(), Error> {
         let (text, length) = (insert.as_ptr().cast(), insert.len());
@@ -206,7 +206,7 @@ impl Session {
         })
     }
 
-    /// The same edit, which also tells what it changed: the least range that has the edit in it and
+    /// The same edit, which also returns what it changed: the least range that has the edit in it and
     /// outside of which all boundaries are the old ones. This is what is to be drawn again.
     pub fn replace_changed(&mut self, at: u32, remove: u32, insert: &str) -> Result<Change, Error> {
         let (text, length) = (insert.as_ptr().cast(), insert.len());
@@ -232,7 +232,7 @@ impl Session {
         })
     }
 
-    /// Puts a text in UTF-16 in place of `remove` units from `at` on, and the cursor at 0.
+    /// Replaces `remove` units from `at` on by a text in UTF-16, and sets the cursor to 0.
     ///
     /// Refuses `Lone` where a surrogate is in no pair, and the rest as [`Session::replace`] does.
     pub fn replace_utf16(&mut self, at: u32, remove: u32, insert: &[u16]) -> Result<(), Error> {
@@ -247,7 +247,7 @@ impl Session {
     /// The text from a place to another.
     ///
     /// Refuses `Outside` where `to` is past the end or before `from`, and `Inside` where one of them
-    /// is inside of a character.
+    /// is inside a character.
     pub fn text(&mut self, from: u32, to: u32) -> Result<String, Error> {
         let (mut bytes, mut length) = (Vec::new(), 0);
         loop {
@@ -344,12 +344,12 @@ type Lists = unsafe extern "C" fn(
     *mut u32,
 ) -> c_int;
 
-/// Boundaries, each with its greatest status.
+/// Boundaries, each with its largest status.
 #[derive(Clone, Debug, Default, PartialEq, Eq)]
 pub struct Boundaries {
     /// Where they are.
     pub places: Vec<u32>,
-    /// The greatest status of each.
+    /// The largest status of each.
     pub statuses: Vec<u32>,
 }
 

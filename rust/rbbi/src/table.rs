@@ -1,5 +1,5 @@
 //! Property files and tables.
-use crate::error::{checked, told, Error};
+use crate::error::{checked, with_fault, Error};
 use crate::{Session, Tally, Unit};
 use rbbi_sys::{rbbi_handle, RBBI_INIT};
 use std::cell::UnsafeCell;
@@ -29,7 +29,7 @@ impl Files {
     pub fn add(&mut self, property: &str, rows: &[u8]) -> Result<(), Error> {
         let property = CString::new(property).map_err(|_| Error::Zero)?;
         // SAFETY: the pointers are those of live values, with their lengths.
-        told(|fault| unsafe {
+        with_fault(|fault| unsafe {
             let (rows, length) = (rows.as_ptr().cast(), rows.len());
             rbbi_sys::rbbi_files_add(&mut self.handle, property.as_ptr(), rows, length, fault)
         })
@@ -82,7 +82,7 @@ impl Table {
         let mut table = Table::closed();
         let (bytes, length) = (rules.as_ptr().cast(), rules.len());
         // SAFETY: the handle holds nothing, and the pointers are those of live values, or NULL.
-        told(|fault| unsafe {
+        with_fault(|fault| unsafe {
             let handle = table.handle.get_mut();
             rbbi_sys::rbbi_table_compile(handle, files, bytes, length, c_int::from(ignored), fault)
         })?;
@@ -95,14 +95,15 @@ impl Table {
     pub fn load(bytes: &[u8]) -> Result<Table, Error> {
         let mut table = Table::closed();
         // SAFETY: as in `compiled`.
-        told(|fault| unsafe {
+        with_fault(|fault| unsafe {
             let (file, length) = (bytes.as_ptr().cast(), bytes.len());
             rbbi_sys::rbbi_table_load(table.handle.get_mut(), file, length, fault)
         })?;
         Ok(table)
     }
 
-    /// A table that is in the library: `grapheme`, `word`, `sentence` or `line`.
+    /// A table that is in the library: `grapheme`, `word` or `sentence` by UAX #29 of Unicode 18.0, or
+    /// `line` by the rules of UAX #14 of 17.0 over the data of 18.0.
     ///
     /// Refuses `Name` for any other name.
     pub fn named(name: &str) -> Result<Table, Error> {

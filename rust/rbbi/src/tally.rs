@@ -5,7 +5,7 @@ use rbbi_sys::{rbbi_handle, RBBI_INIT, RBBI_ROOM};
 use std::ffi::c_int;
 
 /// How many segments of a text have each status, kept while the text is edited. A segment lies between
-/// two neighbouring boundaries, and counts under the greatest status of its end.
+/// two neighbouring boundaries, and counts under the largest status of its end.
 #[derive(Debug)]
 pub struct Tally {
     handle: rbbi_handle,
@@ -26,9 +26,9 @@ impl Tally {
         Ok(tally)
     }
 
-    /// Puts a string in place of `remove` units from `at` on, and counts again what that touches.
+    /// Replaces `remove` units from `at` on by a string, and counts again what that touches.
     ///
-    /// Refuses `Outside` past the end, `Inside` where it begins or ends inside of a character, and
+    /// Refuses `Outside` past the end, `Inside` where it begins or ends inside a character, and
     /// `TooLong` where the text would have more than 16,777,216 characters.
     pub fn replace(&mut self, at: u32, remove: u32, insert: &str) -> Result<(), Error> {
         let (text, length) = (insert.as_ptr().cast(), insert.len());

@@ -24,7 +24,7 @@ use ucd_east_asian::EastAsianWidth;
 use ucd_east_asian::EastAsianWidth::{Fullwidth, Halfwidth, Wide};
 
 /// What the rules read of a character, or of one with its marks.
-#[derive(Clone, Copy, Debug, PartialEq, Eq)]
+#[derive(Clone, Copy, PartialEq, Eq)]
 pub struct Item {
     /// The class, by LB1.
     pub class: LineBreak,

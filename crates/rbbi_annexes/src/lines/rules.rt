@@ -23,7 +23,7 @@ use ucd_breaks::LineBreak::{
 };
 
 /// Whether a line is broken at a place.
-#[derive(Clone, Copy, Debug, PartialEq, Eq)]
+#[derive(Clone, Copy, PartialEq, Eq)]
 pub enum Verdict {
     MustBreak,
     MayBreak,
@@ -31,7 +31,7 @@ pub enum Verdict {
 }
 
 /// What the rules read of the characters before a place: items, counted away from the place.
-#[derive(Clone, Copy, Debug, PartialEq, Eq)]
+#[derive(Clone, Copy, PartialEq, Eq)]
 pub struct Left {
     pub first: Option<Item>,
     pub second: Option<Item>,
@@ -50,7 +50,7 @@ pub struct Left {
 }
 
 /// What the rules read of the characters after a place: items, counted away from the place.
-#[derive(Clone, Copy, Debug, PartialEq, Eq)]
+#[derive(Clone, Copy, PartialEq, Eq)]
 pub struct Right {
     /// The next character is CM or ZWJ.
     pub mark: bool,

@@ -6,7 +6,7 @@ ghost use Rattle.rbbi_command.specs.declared.words.command.Command.{Command};
 use crate::Role;
 
 /// A command of the program.
-#[derive(Clone, Copy, Debug)]
+#[derive(Clone, Copy)]
 pub enum Command {
     /// Report whether a rule file has a fault, and how many rules it has.
     Check,
@@ -30,7 +30,7 @@ pub enum Command {
 }
 
 /// Which options a command takes.
-#[derive(Clone, Copy, Debug)]
+#[derive(Clone, Copy)]
 pub(crate) enum Takes {
     /// None.
     NoOptions,
@@ -43,7 +43,7 @@ pub(crate) enum Takes {
 }
 
 /// What an operand of a command is.
-#[derive(Clone, Copy, Debug)]
+#[derive(Clone, Copy)]
 pub enum Operand {
     /// A file that is read in this role.
     Read(Role),

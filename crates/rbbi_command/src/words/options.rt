@@ -14,7 +14,7 @@ use std::alloc::{AllocError, Global};
 const MOST_PROPERTIES: usize = 16;
 
 /// What the options of a command mean.
-#[derive(Debug, Drop)]
+#[derive(Drop)]
 pub struct Options {
     /// The files that they name to be read, in order.
     pub files: Vec<Source>,

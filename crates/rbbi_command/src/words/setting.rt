@@ -14,7 +14,7 @@ use rbbi_text::Unit;
 use std::alloc::{AllocError, Global};
 
 /// A property file that an option names.
-#[derive(Debug, Drop)]
+#[derive(Drop)]
 pub struct Property {
     /// The name of the property, under which its rows are found.
     pub name: Name,
@@ -23,7 +23,7 @@ pub struct Property {
 }
 
 /// What a filter file has.
-#[derive(Clone, Copy, Debug)]
+#[derive(Clone, Copy)]
 pub enum FilterKind {
     /// Abbreviations, after which boundaries are suppressed.
     Abbreviations,
@@ -32,7 +32,7 @@ pub enum FilterKind {
 }
 
 /// An option and what it takes.
-#[derive(Debug, Drop)]
+#[derive(Drop)]
 pub(super) enum Setting {
     /// Use a property file.
     HandIn(Property),
@@ -171,7 +171,7 @@ fn begins_with_option(words: &[String]) -> bool
 }
 
 /// Consecutive options.
-#[derive(Debug, Drop)]
+#[derive(Drop)]
 pub(super) struct Settings {
     /// The options, in order.
     pub(super) list: Vec<Setting>,

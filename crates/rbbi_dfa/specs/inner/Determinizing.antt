@@ -175,3 +175,11 @@ pub record IsDeterminized (rows : PositionRows) (sets : List (List ℕ)) (automa
   pub plain_stop : marks_of automaton 0 ≡ no_marks
   pub plain_start : marks_of automaton 1 ≡ no_marks
   pub marks : (i : ℕ) → i < length sets → AreMarksOf rows (listed_row sets i) (marks_of automaton (i + 2))
+
+-- what the loop over the sets keeps
+pub record IsLed (rows : PositionRows) (sets : List (List ℕ)) (cells candidates next : List ℕ) (i : ℕ) : Type 0 where
+  pub reached : AreReachedSets rows sets
+  pub within : i ≤ length sets
+  pub led : AreCellsUpTo rows sets cells i
+  pub wide : length candidates ≡ rows.width
+  pub wide_next : length next ≡ rows.width

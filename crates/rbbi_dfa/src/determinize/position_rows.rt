@@ -4,7 +4,7 @@ use std::marker::Model;
 
 /// What is marked where the position reads the last code point: the number of a look-ahead rule
 /// among such rules, or a status number. Contracts see the record of `specs`.
-#[derive(Clone, Copy, Debug, PartialEq, Eq)]
+#[derive(Clone, Copy, PartialEq, Eq)]
 pub(crate) struct Mark {
     pub position: u32,
     pub mark: u32,

@@ -14,7 +14,7 @@ use rbbi_positions::Positions;
 use std::alloc::{AllocError, Global};
 
 /// What positions are marked with in a list.
-#[derive(Clone, Copy, Debug)]
+#[derive(Clone, Copy)]
 pub(crate) enum ListKind {
     /// The last ones with the numbers of their look-ahead rules.
     Completed,

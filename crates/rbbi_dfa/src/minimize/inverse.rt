@@ -9,8 +9,8 @@ use std::alloc::{AllocError, Global};
 /// themselves.
 #[derive(Drop)]
 pub(crate) struct Inverse {
-    rows: usize,
-    /// For each category and row, where its sources end. They begin where those before end.
+    width: usize,
+    /// For each row and category, where its sources end. They begin where those before end.
     ends: Vec<u32>,
     /// The rows that lead there, one after another.
     sources: Vec<u16>,
@@ -21,13 +21,13 @@ impl Inverse {
     pub fn new(alloc: Global, automaton: &Automaton) -> Result<Inverse, AllocError>
         requires { IsDetermined automaton.now }
     {
-        let rows = automaton.rows() as usize;
-        let places = rows * automaton.categories as usize;
+        let width = automaton.categories as usize;
+        let places = automaton.rows() as usize * width;
         let mut ends = vec![in alloc; 0u32; places]?;
         let mut sources = vec![in alloc; 0u16; places]?;
-        for category in 0..automaton.categories {
-            for row in 0..automaton.rows() {
-                let place = category as usize * rows + automaton.next(row, category) as usize;
+        for row in 0..automaton.rows() {
+            for category in 0..automaton.categories {
+                let place = automaton.next(row, category) as usize * width + category as usize;
                 ends[place] = ends[place].wrapping_add(1);
             }
         }
@@ -37,9 +37,9 @@ impl Inverse {
             *end = before;
             before = before.wrapping_add(count);
         }
-        for category in 0..automaton.categories {
-            for row in 0..automaton.rows() {
-                let place = category as usize * rows + automaton.next(row, category) as usize;
+        for row in 0..automaton.rows() {
+            for category in 0..automaton.categories {
+                let place = automaton.next(row, category) as usize * width + category as usize;
                 let at = ends[place];
                 if let Some(source) = sources.get_mut(at as usize) {
                     *source = row;
@@ -48,7 +48,7 @@ impl Inverse {
             }
         }
         Ok(Inverse {
-            rows,
+            width,
             ends,
             sources,
         })
@@ -56,9 +56,9 @@ impl Inverse {
 
     /// The rows that lead by the category to the row.
     pub fn sources(&self, category: u16, row: u16) -> &[u16] {
-        let place = (category as usize)
-            .wrapping_mul(self.rows)
-            .wrapping_add(row as usize);
+        let place = (row as usize)
+            .wrapping_mul(self.width)
+            .wrapping_add(category as usize);
         let start = if place == 0 {
             0
         } else {

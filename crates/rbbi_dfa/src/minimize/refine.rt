@@ -11,6 +11,37 @@ use crate::minimize::tally::Tally;
 use crate::minimize::work::Work;
 use std::alloc::{AllocError, Global};
 
+/// What says which classes to look at, and in which order. Nothing is proved of it.
+#[derive(Drop)]
+struct Guide {
+    inverse: Inverse,
+    work: Work,
+    tally: Tally,
+}
+
+impl Guide {
+    /// Counts for each class its rows that lead by the category to a member.
+    fn count(&mut self, classes: &[u16], category: u16, members: &[u16]) -> Result<(), AllocError> {
+        self.tally.count(&self.inverse, classes, category, members)
+    }
+}
+
+/// All classes wait to be split by.
+fn guide_of(
+    alloc: Global,
+    automaton: &Automaton,
+    partition: &Partition,
+) -> Result<Guide, AllocError>
+    requires determined { IsDetermined automaton.now }
+    requires room { length partition.now.firsts.items ≤ MOST_ROWS }
+{
+    Ok(Guide {
+        inverse: Inverse::new(alloc, automaton)?,
+        work: Work::new(alloc, &partition.classes, partition.firsts.len())?,
+        tally: Tally::new(alloc)?,
+    })
+}
+
 /// Splits classes until no class leads by a category both into some class and not, or until there
 /// are more classes than a table may have rows.
 ///
@@ -29,20 +60,16 @@ pub(crate) fn refine(
         partition.new.firsts.items }
     ensures room { length partition.new.firsts.items ≤ MOST_ROWS + 1 }
 {
-    let inverse = Inverse::new(alloc, automaton)?;
-    let mut work = Work::new(alloc, &partition.classes, partition.firsts.len())?;
-    let mut tally = Tally::new(alloc)?;
+    let mut guide = guide_of(alloc, automaton, partition)?;
     // A class waits once, and one more for each split.
     for _turn in 0..=MOST_ROWS {
         if partition.firsts.len() > MOST_ROWS {
             return Ok(());
         }
-        let Some(splitter) = work.next() else {
+        let Some(splitter) = guide.work.next() else {
             return Ok(());
         };
-        split_by(
-            alloc, automaton, &inverse, partition, &mut work, &mut tally, splitter,
-        )?;
+        split_by(alloc, automaton, partition, &mut guide, splitter)?;
     }
     Ok(())
 }
@@ -51,10 +78,8 @@ pub(crate) fn refine(
 fn split_by(
     alloc: Global,
     automaton: &Automaton,
-    inverse: &Inverse,
     partition: &mut Partition,
-    work: &mut Work,
-    tally: &mut Tally,
+    guide: &mut Guide,
     splitter: u16,
 ) -> Result<(), AllocError>
     requires determined { IsDetermined automaton.now }
@@ -67,9 +92,31 @@ fn split_by(
 {
     let inside = side_of(alloc, &partition.classes, splitter)?;
     let members = members_of(alloc, &partition.classes, splitter)?;
+    split_along(alloc, automaton, partition, guide, &members, &inside)
+}
+
+/// Splits every class of which some rows lead by a category to these members, and others don't.
+fn split_along(
+    alloc: Global,
+    automaton: &Automaton,
+    partition: &mut Partition,
+    guide: &mut Guide,
+    members: &[u16],
+    inside: &[bool],
+) -> Result<(), AllocError>
+    requires determined { IsDetermined automaton.now }
+    requires partition { IsPartition automaton.now partition.old.classes.items
+        partition.old.firsts.items }
+    requires room { length partition.old.firsts.items ≤ MOST_ROWS + 1 }
+    requires sides { AreSides partition.old.classes.items inside.now }
+    requires inside { length inside.now ≡ length automaton.now.rows }
+    ensures partition { IsPartition automaton.now partition.new.classes.items
+        partition.new.firsts.items }
+    ensures room { length partition.new.firsts.items ≤ MOST_ROWS + 1 }
+{
     for category in 0..automaton.categories {
-        tally.count(inverse, &partition.classes, category, &members)?;
-        split_touched(alloc, automaton, partition, work, tally, category, &inside)?;
+        guide.count(&partition.classes, category, members)?;
+        split_touched(alloc, automaton, partition, guide, category, inside)?;
     }
     Ok(())
 }
@@ -79,8 +126,7 @@ fn split_touched(
     alloc: Global,
     automaton: &Automaton,
     partition: &mut Partition,
-    work: &mut Work,
-    tally: &mut Tally,
+    guide: &mut Guide,
     category: u16,
     inside: &[bool],
 ) -> Result<(), AllocError>
@@ -96,12 +142,12 @@ fn split_touched(
     ensures sides { AreSides partition.new.classes.items inside.now }
     ensures room { length partition.new.firsts.items ≤ MOST_ROWS + 1 }
 {
-    while let Some((class, count)) = tally.take() {
+    while let Some((class, count)) = guide.tally.take() {
         let known = (class as usize) < partition.firsts.len();
-        if known && partition.firsts.len() <= MOST_ROWS && count < work.size(class) {
+        if known && partition.firsts.len() <= MOST_ROWS && count < guide.work.size(class) {
             let left = partition.split(alloc, automaton, class, category, inside)?;
             if left > 0 {
-                work.note_split(class, left)?;
+                guide.work.note_split(class, left)?;
             }
         }
     }

@@ -7,6 +7,30 @@ ghost use Rattle.rbbi_dfa.specs.inner.Partitions.{IsPartition, IsStable};
 use crate::automaton::Automaton;
 use crate::minimize::Partition;
 
+/// A category by which two rows lead into different classes.
+fn difference(automaton: &Automaton, partition: &Partition, this: u16, that: u16) -> Option<u16>
+    requires determined { IsDetermined automaton.now }
+    requires partition { IsPartition automaton.now partition.now.classes.items
+        partition.now.firsts.items }
+    requires this { this < length automaton.now.rows }
+    requires that { that < length automaton.now.rows }
+    ensures { MatchOption result
+        ((category : ℕ) → category < automaton.now.categories
+        → slice_index partition.now.classes.items (step automaton.now this category)
+        ≡ slice_index partition.now.classes.items (step automaton.now that category))
+        (λ category. (category < automaton.now.categories)
+        × (slice_index partition.now.classes.items (step automaton.now this category)
+        ≢ slice_index partition.now.classes.items (step automaton.now that category))) }
+{
+    for category in 0..automaton.categories {
+        let class = partition.classes[automaton.next(this, category) as usize];
+        if class != partition.classes[automaton.next(that, category) as usize] {
+            return Some(category);
+        }
+    }
+    None
+}
+
 /// A row and a category by which it leads into another class than its class's first row does.
 pub(crate) fn disagreement(automaton: &Automaton, partition: &Partition) -> Option<(u16, u16)>
     requires determined { IsDetermined automaton.now }
@@ -23,11 +47,8 @@ pub(crate) fn disagreement(automaton: &Automaton, partition: &Partition) -> Opti
 {
     for row in 0..automaton.rows() {
         let first = partition.firsts[partition.classes[row as usize] as usize];
-        for category in 0..automaton.categories {
-            let class = partition.classes[automaton.next(row, category) as usize];
-            if class != partition.classes[automaton.next(first, category) as usize] {
-                return Some((row, category));
-            }
+        if let Some(category) = difference(automaton, partition, row, first) {
+            return Some((row, category));
         }
     }
     None

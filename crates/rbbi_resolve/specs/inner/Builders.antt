@@ -6,7 +6,7 @@ use Rattle.rbbi_model.specs.Ranges.{Range}
 use Rattle.rbbi_model.specs.SetTrees as model
 use Rattle.rbbi_model.specs.Spelling as spelling
 use Rattle.rbbi_props.specs.Rows.{File}
-use Rattle.rbbi_tree.specs.Trees.{ExprTree, StatementTree, assign}
+use Rattle.rbbi_tree.specs.Trees.{StatementTree}
 use Rattle.rbbi_tree.specs.Values.{statement_trees}
 use Rattle.rbbi_classes.specs.Classes.{ClassBits}
 use Rattle.rbbi_classes.specs.CharacterSets.{characters_of}
@@ -35,7 +35,7 @@ IsSetRow files division (Some tree) (Some row) = IsSetOfLeaf files tree (charact
 
 -- the leaves of the file from this number on are these, and have sets
 abbrev pub StandFrom : Context → FileLeaves → ℕ → List (Option model.SetTree) → Type 0
-StandFrom context leaves number values = StandAt (IsSetRow (files_of context) (division_of context)) leaves.rows.items number values
+StandFrom context leaves number values = StandAt (IsSetRow (files_of context) (division_of context)) leaves.rows.now.items number values
 
 -- each leaf has a set that it may have
 abbrev pub HasLawfulLeaves : spelling.Tree → Type 0
@@ -78,19 +78,13 @@ pub record IsJoined (make : List spelling.Tree → spelling.Tree) (before parts 
 abbrev pub JoinsFrom : (List spelling.Tree → spelling.Tree) → ℕ → List Tree → List Tree → Type 0
 JoinsFrom make first old new = (before parts : List Tree) → first ≡ length before → old ≡ before ++ parts → IsJoined make before parts new
 
--- the statement with this number assigns the expression
-pub record IsAssigned (statements : List StatementTree) (number : ℕ) (expr : ExprTree) : Type 0 where
-  pub word : List ℕ
-  pub place : ℕ
-  pub at : slice_get statements number ≡ Some (assign word place expr)
-
 -- each set is one that a leaf may have, and a leaf with a number has the set of that
 pub record IsBuilder (context : Context) (leaves : FileLeaves) (builder : Builder) : Type 0 where
   pub few : length builder.rows.items ≤ 4294967295
   pub formed : AllByRecursion IsLeafSet (sets_of context builder.rows.items)
-  pub long : length builder.numbers.items ≡ length leaves.rows.items
+  pub long : length builder.numbers.items ≡ length leaves.rows.now.items
   pub each : (place number : ℕ) (row : ClassBits) → slice_get builder.numbers.items place ≡ Some (Some number) →
-      slice_get leaves.rows.items place ≡ Some (Some row) → slice_get builder.rows.items number ≡ Some row
+      slice_get leaves.rows.now.items place ≡ Some (Some row) → slice_get builder.rows.items number ≡ Some row
 
 -- sets were added
 pub record Extends (context : Context) (leaves : FileLeaves) (before after : Builder) : Type 0 where
@@ -103,7 +97,7 @@ pub record IsReady (context : Context) (leaves : FileLeaves) : Type 0 where
   pub end : ℕ
   pub variables : AreVariables (files_of context) (bounds_of context) (statement_trees context.statements.now) context.variables.now end
   pub low : context.limit ≤ end
-  pub long : length leaves.firsts.items ≡ length context.statements.now
+  pub long : length leaves.firsts.now.items ≡ length context.statements.now
   pub stand : (number : ℕ) (s : StatementTree) → slice_get (statement_trees context.statements.now) number ≡ Some s →
-      StandFrom context leaves (slice_index leaves.firsts.items number)
+      StandFrom context leaves (slice_index leaves.firsts.now.items number)
       (leaves_of_statement (context_at (files_of context) (statement_trees context.statements.now) number) s)

@@ -1,5 +1,5 @@
 -- The context as the code has it: its variables, and what they stand for.
-use Rattle.std.specs.Prelude.{◌≡◌, ℕ, ◌<◌, ◌≤◌, nat_lt, Option, Some, None, List, map, slice_get, MatchOption, if◌then◌else◌}
+use Rattle.std.specs.Prelude.{◌≡◌, ℕ, ◌<◌, ◌≤◌, nat_lt, Option, Some, None, List, [], ◌∷◌, map, slice_get, MatchOption, if◌then◌else◌}
 use Rattle.std.specs.HashMap.{HashMap, get_by_text}
 use Rattle.std.specs.Rc.{rc_value}
 use Rattle.std.specs.declared.string.String.{String}
@@ -17,6 +17,8 @@ use Rattle.rbbi_resolve.specs.inner.ClassValues.{IsClassValue, AreRightClasses}
 use Rattle.rbbi_resolve.specs.Contexts as contexts
 use Rattle.rbbi_resolve.specs.Contexts.{assigned_to, value_of_name}
 use Rattle.rbbi_resolve.specs.inner.Covered.{NamesRespect}
+use Rattle.rbbi_resolve.specs.inner.OwnLeaves.{AddsLeafRows, leaves_of_expr}
+use Rattle.rbbi_model.specs.SetTrees as model
 use Rattle.rbbi_model.specs.Ranges.{Range}
 use Rattle.rbbi_classes.specs.Classes.{ClassBits}
 use Rattle.rbbi_classes.specs.CharacterSets.{characters_of}
@@ -29,19 +31,31 @@ use Rattle.rbbi_resolve.specs.inner.Summaries.{Summarizes}
 abbrev pub Variables : Type 0
 Variables = HashMap (String Global) Variable (BuildHasherDefault FoldHasher)
 
--- the value of the code for what a name stands for
-abbrev pub IsKindOf : List File → List ℕ → Kind → contexts.Variable → Type 0
-IsKindOf files bounds (kind.Set set) (contexts.Set value) = IsClassValue files bounds value set
-IsKindOf files bounds (kind.Set set) (contexts.Expression meaning height) = ⊥
-IsKindOf files bounds (kind.Expression summary) (contexts.Set value) = ⊥
-IsKindOf files bounds (kind.Expression summary) (contexts.Expression meaning height) = Summarizes summary meaning height
+-- the statement with this number assigns the expression
+pub record IsAssigned (statements : List StatementTree) (number : ℕ) (expr : ExprTree) : Type 0 where
+  pub word : List ℕ
+  pub place : ℕ
+  pub at : slice_get statements number ≡ Some (assign word place expr)
+
+-- the statement with this number assigns one leaf of its own, which has the value
+pub record IsWritten (files : List File) (statements : List StatementTree) (number : ℕ) (value : Option model.SetTree) : Type 0 where
+  pub expr : ExprTree
+  pub assigned : IsAssigned statements number expr
+  pub leaf : leaves_of_expr (context_at files statements number) expr ≡ value ∷ []
+
+-- the value of the code for what a name stands for; that of a set is written by the statement with the number
+abbrev pub IsKindOf : List File → List ℕ → List StatementTree → Kind → contexts.Variable → Type 0
+IsKindOf files bounds statements (kind.Set set writer) (contexts.Set value) = IsClassValue files bounds value set × IsWritten files statements writer value
+IsKindOf files bounds statements (kind.Set set writer) (contexts.Expression meaning height) = ⊥
+IsKindOf files bounds statements (kind.Expression summary) (contexts.Set value) = ⊥
+IsKindOf files bounds statements (kind.Expression summary) (contexts.Expression meaning height) = Summarizes summary meaning height
 
 -- both are absent, or the variable of the code is that of the specification
-abbrev pub Matches : List File → List ℕ → Option Variable → Option contexts.Variable → Type 0
-Matches files bounds None None = Unit {0}
-Matches files bounds None (Some there) = ⊥
-Matches files bounds (Some here) None = ⊥
-Matches files bounds (Some here) (Some there) = IsKindOf files bounds here.kind there
+abbrev pub Matches : List File → List ℕ → List StatementTree → Option Variable → Option contexts.Variable → Type 0
+Matches files bounds statements None None = Unit {0}
+Matches files bounds statements None (Some there) = ⊥
+Matches files bounds statements (Some here) None = ⊥
+Matches files bounds statements (Some here) (Some there) = IsKindOf files bounds statements here.kind there
 
 -- the variable, if a statement before the limit assigns it
 abbrev pub visible : ℕ → Option Variable → Option Variable
@@ -50,7 +64,7 @@ visible limit (Some variable) = if nat_lt variable.statement limit then Some var
 
 -- before the limit each name stands in the code for what it does in the specification
 pub record Describes (files : List File) (bounds : List ℕ) (statements : List StatementTree) (variables : Variables) (limit : ℕ) : Type 0 where
-  pub same : (name : List ℕ) → Matches files bounds (visible limit (get_by_text variables name)) (assigned_to
+  pub same : (name : List ℕ) → Matches files bounds statements (visible limit (get_by_text variables name)) (assigned_to
       (context_at files statements limit).variables name)
 
 -- The variable is that of the name: its statement assigns it first, of those before the end.
@@ -63,7 +77,7 @@ pub record IsDefinedBy (files : List File) (bounds : List ℕ) (statements : Lis
   pub before : (limit : ℕ) → limit ≤ variable.statement → assigned_to (context_at files statements limit).variables name ≡ None
   pub behind : (limit : ℕ) → variable.statement < limit → limit ≤ end →
       assigned_to (context_at files statements limit).variables name ≡ Some (variable_for (context_at files statements variable.statement) expr)
-  pub kind : IsKindOf files bounds variable.kind (variable_for (context_at files statements variable.statement) expr)
+  pub kind : IsKindOf files bounds statements variable.kind (variable_for (context_at files statements variable.statement) expr)
 
 -- no statement before the end assigns the name
 abbrev pub IsUnassigned : List File → List StatementTree → ℕ → List ℕ → Type 0
@@ -101,6 +115,10 @@ pub record IsContext (context : Context) : Type 0 where
   pub respects : NamesRespect (files_of context) (stand_of context) (value_of_name (context_of context))
   pub describes : Describes (files_of context) (bounds_of context) (statement_trees context.statements.now) context.variables.now context.limit
   pub classes : AreRightClasses (files_of context) context.classes.now
+
+-- the rows of these leaves were added
+abbrev pub AddsRows : Context → List (Option model.SetTree) → List (Option ClassBits) → List (Option ClassBits) → Type 0
+AddsRows context values before after = AddsLeafRows (files_of context) (division_of context) values before after
 
 -- the context knows whether only quoted characters may stand outside of sets
 abbrev pub KnowsQuotes : Context → Type 0

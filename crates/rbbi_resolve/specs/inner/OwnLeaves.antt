@@ -9,13 +9,11 @@ use Rattle.rbbi_tree.specs.Trees.{property, set, group, StatementTree, nothing, 
 use Rattle.rbbi_classes.specs.Classes.{ClassBits}
 use Rattle.rbbi_classes.specs.CharacterSets.{characters_of}
 use Rattle.rbbi_classes.specs.Divisions.{ClassDivision, stand_in}
-use Rattle.rbbi_resolve.specs.declared.context.Context as code
 use Rattle.rbbi_resolve.specs.SetValues.{value_of_set, value_of_property}
 use Rattle.rbbi_resolve.specs.Contexts.{Context, value_of_name}
 use Rattle.rbbi_resolve.specs.RuleLists.{IsLeafSet}
 use Rattle.rbbi_resolve.specs.inner.ClassValues.{IsClassValue}
 use Rattle.rbbi_resolve.specs.inner.Covered.{Respects}
-use Rattle.rbbi_resolve.specs.inner.Contexts.{files_of, division_of}
 
 abbrev mutual
   -- the values of the leaves, from the left
@@ -66,9 +64,6 @@ pub record AddsLeafRows (files : List File) (division : ClassDivision) (values :
   pub more : List (Option ClassBits)
   pub is : after ≡ before ++ more
   pub each : AllZip (IsLeafRow files division) values more
-
-abbrev pub AddsRows : code.Context → List (Option model.SetTree) → List (Option ClassBits) → List (Option ClassBits) → Type 0
-AddsRows context values before after = AddsLeafRows (files_of context) (division_of context) values before after
 
 -- the rows from this number on are those of these leaves
 pub record StandAt (IsRow : Option model.SetTree → Option ClassBits → Type 0) (rows : List (Option ClassBits)) (number : ℕ)

@@ -1,7 +1,7 @@
 -- The rows that open rows lead to by a category, and whether these lead on to one row.
-use Rattle.std.specs.Prelude.{◌≡◌, ℕ, ◌<◌, ◌⊎◌, Bool, true, false, List, length, slice_index, slice_index_or, count_by}
+use Rattle.std.specs.Prelude.{◌≡◌, ℕ, ◌+◌, ◌*◌, ◌<◌, ◌≤◌, ◌⊎◌, ◌↔◌, IsTrue, Bool, true, false, List, length, slice_index, slice_index_or, count_by}
 use Rattle.rbbi_model.specs.Tables.{Table, step}
-use Rattle.rbbi_model.specs.SafePairs.{IsOpen}
+use Rattle.rbbi_model.specs.SafePairs.{IsOpen, IsSafePair, stored_bit}
 
 -- these are the rows that open rows lead to by the category
 pub record AreTargets (table : Table) (category : ℕ) (targets : List ℕ) : Type 0 where
@@ -22,3 +22,9 @@ pub record AddsTarget (old : List ℕ) (target : ℕ) (new : List ℕ) : Type 0 
 -- all of the rows lead to one row by the category
 abbrev pub LeadToOne : Table → ℕ → List ℕ → Type 0
 LeadToOne table category targets = (goal : ℕ) × ((i : ℕ) → i < length targets → step table (slice_index targets i) category ≡ goal)
+
+-- the bits below a number are those of the safe pairs, and none is set from there on
+pub record AreFirstPairs (table : Table) (bytes : List ℕ) (count : ℕ) : Type 0 where
+  pub exactly : (first second : ℕ) → first < table.categories → second < table.categories → first * table.categories + second < count →
+      IsTrue (stored_bit bytes (first * table.categories + second)) ↔ IsSafePair table first second
+  pub none : (i : ℕ) → count ≤ i → ¬ IsTrue (stored_bit bytes i)

@@ -20,7 +20,7 @@ use std::alloc::{AllocError, Global};
 use std::sync::ledger::Ledger;
 
 /// What is reported of tests: a line for each that differs, and how many pass and differ.
-#[derive(Debug, Drop)]
+#[derive(Drop)]
 struct Report {
     lines: Vec<u8>,
     passed: usize,

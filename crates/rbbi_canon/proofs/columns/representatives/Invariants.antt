@@ -1,4 +1,4 @@
-use Rattle.rbbi_canon.proofs.ColumnsKept.{AreKept}
+use Rattle.rbbi_canon.specs.inner.Columns.{AreKept}
 use Rattle.rbbi_canon.proofs.columns.representatives.Given as goal
 
 abbrev pub invariant-loop-category : goal.invariant-loop-category

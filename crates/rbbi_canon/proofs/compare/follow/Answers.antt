@@ -1,6 +1,5 @@
 use Rattle.std.proofs.Common.{◌+◌, List, length, refl, sym, ◌∙◌, ap, subst, arith}
 use Rattle.std.proofs.lemmas.List.{length_push}
-use Rattle.rbbi_model.specs.Tables.{step}
 use Rattle.rbbi_canon.specs.declared.pairs.Pair.{Pair}
 use Rattle.rbbi_canon.specs.inner.Joins.{JoinsLabels}
 use Rattle.rbbi_canon.specs.inner.Pairs.{pair_at, AreReached, AreSearched}

@@ -13,7 +13,7 @@ invariant-boundaries g l =
       short : l.session.state.cursor < l.o;
       trail : IsTrail old.state.text l.trail;
       behind : l.trail.at ≤ l.session.state.cursor;
-      found : IsFound l.fn.list old.table old.state.text old.state.cursor l.session.state.cursor l.last;
+      found : IsFound (g.A.Lists.list_of l.fn.held) old.table old.state.text old.state.cursor l.session.state.cursor l.last;
       more : l.fn.steps ≤ l.steps;
       cost : l.steps + min 64 (l.session.state.cursor - l.trail.at) + stretch_cost old.table old.state.text l.session.state.cursor l.o
           ≤ l.fn.steps + 64 + (l.session.state.cursor - old.state.cursor) + stretch_cost old.table old.state.text old.state.cursor l.o;

@@ -1,12 +1,12 @@
-use Rattle.std.proofs.Common.{◌≡◌, ◌+◌, ◌&&◌, not, true, false, Some, [], ◌∷◌, length, slice_get, slice_index, if◌then◌else◌, sym, refl}
+use Rattle.std.proofs.Common.{◌≡◌, ◌+◌, ◌≤◌, max, ◌&&◌, not, true, false, Some, [], ◌∷◌, length, slice_get, slice_index, if◌then◌else◌, sym, refl}
 use Rattle.std.proofs.Common.{ap, ◌∙◌, subst, arith}
-use Rattle.std.specs.Option.{option_map}
+use Rattle.std.specs.Option.{option_map, option_map_or}
 use Rattle.std.specs.List.{AllZip}
 use Rattle.std.proofs.lemmas.Grind.{get_or_default_zero}
 use Rattle.std.proofs.lemmas.List.{append-nil}
 use Rattle.rbbi_tree.specs.Trees.{StatementTree, nothing, control, assign, rule}
 use Rattle.rbbi_tree.specs.Values.{statement_trees, expr_tree, rest_tree}
-use Rattle.rbbi_resolve.specs.Expressions.{meaning_of_expr}
+use Rattle.rbbi_resolve.specs.Expressions.{meaning_of_expr, height_of_expr}
 use Rattle.rbbi_resolve.specs.Files.{RuleMeaning, context_after, after_control, rule_in}
 use Rattle.rbbi_resolve.specs.inner.Contexts.{sets_of, files_of, division_of, context_of}
 use Rattle.rbbi_resolve.specs.inner.Switchings.{AreSwitches}
@@ -16,6 +16,7 @@ use Rattle.rbbi_resolve.specs.declared.rules.Rule.{Rule}
 use Rattle.rbbi_resolve.specs.inner.Builders.{IsPart, IsSetRow, StandFrom}
 use Rattle.rbbi_resolve.specs.inner.RulesSoFar.{IsRuleBuilt, AreRulesTo}
 use Rattle.rbbi_resolve.proofs.Steps.{tree_at, meant}
+use Rattle.rbbi_resolve.proofs.Heights.{rule_is_low}
 use Rattle.rbbi_resolve.proofs.Building.{part_more, stand_parts, goes_nowhere, goes_further}
 use Rattle.rbbi_resolve.proofs.RulesBuilt.{statement_built, rule_fresh}
 use Rattle.rbbi_resolve.proofs.Ending.{switches_kept}
@@ -78,20 +79,20 @@ returns-then-not-switches c =
 
 -- its leaves stand from the first one on
 stand : (c : In-Rule) →
-    StandFrom c.args.context.now c.args.leaves.now (slice_index c.args.leaves.now.firsts.items c.args.context.now.limit)
+    StandFrom c.args.context.now c.args.leaves.now (slice_index c.args.leaves.now.firsts.now.items c.args.context.now.limit)
     (leaves_of_expr (context_of c.args.context.now) (expr_tree c.in-Rule.front))
     × StandFrom c.args.context.now c.args.leaves.now
-    (slice_index c.args.leaves.now.firsts.items c.args.context.now.limit
+    (slice_index c.args.leaves.now.firsts.now.items c.args.context.now.limit
     + length (leaves_of_expr (context_of c.args.context.now) (expr_tree c.in-Rule.front)))
     (leaves_of_rest (context_of c.args.context.now) (rest_tree c.in-Rule.rest))
 stand c =
     let context = c.args.context.now in
-    stand_parts (IsSetRow (files_of context) (division_of context)) c.args.leaves.now.rows.items _ _ _ (c.requires.ready.stand context.limit _ (rule_at c))
+    stand_parts (IsSetRow (files_of context) (division_of context)) c.args.leaves.now.rows.now.items _ _ _ (c.requires.ready.stand context.limit _ (rule_at c))
 
 pub tree_of_expr-requires-clause-stand : goal.tree_of_expr-requires-clause-stand
 tree_of_expr-requires-clause-stand c =
     let context = c.args.context.now in
-    let firsts = c.args.leaves.now.firsts.items in
+    let firsts = c.args.leaves.now.firsts.now.items in
     let first : c.index.result.now ≡ slice_index firsts context.limit =
     c.index.ensures ∙ get_or_default_zero firsts context.limit c.index.result.now (omega (arith, c.requires.ready.long, c.requires.inside)) in
     subst (λ n. StandFrom context c.args.leaves.now n (leaves_of_expr (context_of context) (expr_tree c.in-Rule.front))) (sym first)
@@ -100,12 +101,32 @@ tree_of_expr-requires-clause-stand c =
 pub tree_of_rest-requires-clause-stand : goal.tree_of_rest-requires-clause-stand
 tree_of_rest-requires-clause-stand c =
     let context = c.args.context.now in
-    let firsts = c.args.leaves.now.firsts.items in
+    let firsts = c.args.leaves.now.firsts.now.items in
     let front = leaves_of_expr (context_of context) (expr_tree c.in-Rule.front) in
     let first : c.index.result.now ≡ slice_index firsts context.limit =
     c.index.ensures ∙ get_or_default_zero firsts context.limit c.index.result.now (omega (arith, c.requires.ready.long, c.requires.inside)) in
     subst (λ n. StandFrom context c.args.leaves.now n (leaves_of_rest (context_of context) (rest_tree c.in-Rule.rest)))
     (sym (c.in_ok-front-in-Rule.ensures.moved ∙ ap (λ n. n + length front) first)) (stand (goal.at.tree_of_rest-requires-clause-stand c).In-Rule).1
+
+-- it is not too tall
+low : (c : In-Rule) → c.args.switches.now.active ≡ true →
+    max (height_of_expr (context_of c.args.context.now) (expr_tree c.in-Rule.front))
+    (option_map_or (height_of_expr (context_of c.args.context.now)) (rest_tree c.in-Rule.rest) 0) ≤ 256
+low c active =
+    let context = c.args.context.now in
+    let r = c.requires.rules in
+    rule_is_low (files_of context) (statement_trees context.statements.now) r.done context.limit _ _ _ _ _ _ r.every (rule_at c)
+    (sym r.switched.active ∙ active) c.requires.low
+
+pub tree_of_expr-requires-clause-low : goal.tree_of_expr-requires-clause-low
+tree_of_expr-requires-clause-low c =
+    let low = low (goal.at.tree_of_expr-requires-clause-low c).In-Rule c.if-not-switches.false in
+    omega arith
+
+pub tree_of_rest-requires-clause-low : goal.tree_of_rest-requires-clause-low
+tree_of_rest-requires-clause-low c =
+    let low = low (goal.at.tree_of_rest-requires-clause-low c).In-Rule c.if-not-switches.false in
+    omega arith
 
 pub returns-in_ok-push-in-Rule : goal.returns-in_ok-push-in-Rule
 returns-in_ok-push-in-Rule c =

@@ -10,9 +10,9 @@ use Rattle.rbbi_resolve.specs.Expressions.{meaning_of_item, height_of_item, mean
 use Rattle.rbbi_resolve.specs.Parts.{Outside, parts_of_item, parts_of_expr}
 use Rattle.rbbi_resolve.specs.inner.Faults.{noted_parts}
 use Rattle.rbbi_resolve.specs.inner.Summaries.{Sums, Summarizes}
-use Rattle.rbbi_resolve.specs.inner.Contexts.{context_of, files_of, stand_of}
+use Rattle.rbbi_resolve.specs.inner.Contexts.{context_of, files_of, stand_of, AddsRows}
 use Rattle.rbbi_resolve.specs.inner.Covered.{IsCovered, AreCovered}
-use Rattle.rbbi_resolve.specs.inner.OwnLeaves.{AddsRows, leaves_of_expr, leaves_of_seq, leaves_of_item, leaves_of_atom}
+use Rattle.rbbi_resolve.specs.inner.OwnLeaves.{leaves_of_expr, leaves_of_seq, leaves_of_item, leaves_of_atom}
 use Rattle.rbbi_resolve.proofs.Noting.{noted_parts_of_append}
 use Rattle.rbbi_resolve.proofs.ItemTrees.{atom_of_property, atom_of_set, atom_of_group}
 use Rattle.rbbi_resolve.specs.SetValues.{value_of_set, value_of_property}

@@ -1,7 +1,7 @@
 use Rattle.std.proofs.Common.{◌++◌, sym, subst}
 use Rattle.rbbi_tree.specs.Values.{expr_tree, rest_tree}
-use Rattle.rbbi_resolve.specs.inner.Contexts.{context_of}
-use Rattle.rbbi_resolve.specs.inner.OwnLeaves.{AddsRows, leaves_of_expr, leaves_of_rest}
+use Rattle.rbbi_resolve.specs.inner.Contexts.{context_of, AddsRows}
+use Rattle.rbbi_resolve.specs.inner.OwnLeaves.{leaves_of_expr, leaves_of_rest}
 use Rattle.rbbi_resolve.proofs.Adding.{more_rows}
 use Rattle.rbbi_resolve.specs.inner.RuleSums.{AreSumsOf}
 use Rattle.rbbi_resolve.proofs.rule.check_rule.Goals as goal

@@ -11,6 +11,6 @@ returns g c =
       all.1,
       all.2,
       all_put all.0 _ (g.K.Sink.taken c.args.out.now) (g.K.Sink.taken c.hand_over.new.out)
-          (segments c.args.unit c.args.filter.now c.args.table.now all.0) c.new-made.ensures.items all.3,
+          (segments c.args.unit c.args.means.now.filter c.args.means.now.table all.0) c.new-made.ensures.items all.3,
     ))
     c.hand_over.ensures

@@ -1,4 +1,5 @@
-use Rattle.std.proofs.Common.{◌≡◌, ◌<◌, true, false, ℕ, List, length, refl, sym, ap, ◌∙◌, subst, inl, inr, ⊎_elim, arith}
+use Rattle.std.proofs.Common.{◌≡◌, ◌+◌, ◌<◌, true, false, ℕ, List, length, refl, sym, ap, ◌∙◌, subst, inl, inr, ⊎_elim, arith}
+use Rattle.std.proofs.lemmas.Bool.{false≢true, cases_lt}
 use Rattle.rbbi_model.specs.Searches.{found, look_end, next_boundary}
 use Rattle.rbbi_model.specs.Tables.{statuses_of}
 use Rattle.rbbi_session.proofs.Reaching.{found_within}
@@ -26,6 +27,15 @@ returns-then-not-is_final-clause-lies g c = c.loop-now.invariant.lies
 
 pub returns-then-not-is_final-clause-handed : goal.returns-then-not-is_final-clause-handed
 returns-then-not-is_final-clause-handed g c = c.loop-now.invariant.stands
+
+pub returns-then-not-is_final-clause-all : goal.returns-then-not-is_final-clause-all
+returns-then-not-is_final-clause-all g c whole last =
+    let long : c.len-len.result ≡ length c.args.text.now =
+    c.len-len.ensures.exact ∙ ap length c.requires.searched ∙ searched_len c.args.filter.now c.args.text.now in
+    ⊎_elim
+    (λ more. inr more)
+    (λ enough. absurd (false≢true (sym c.if-not-is_final.true ∙ c.is_final.ensures.last whole last (omega (arith, long, enough)))))
+    (cases_lt (c.loop-now.now.start + c.args.extent.limit) (length c.args.text.now))
 
 pub segment_up_to-requires-clause-forward : goal.segment_up_to-requires-clause-forward
 segment_up_to-requires-clause-forward g c =
@@ -115,6 +125,10 @@ loop-now-preserved g c =
           (λ ends. inl (omega (arith, ends.0, look, long, c.len-len.ensures.exact), omega (arith, ends.1, long, c.len-len.ensures.exact))) final)
           (c.loop-now.invariant.stands base rest x first before is last stands) hidden;
     }
+
+pub returns-clause-all : goal.returns-clause-all
+returns-clause-all g c whole last =
+    inl (omega (arith, c.loop-now-test.false, c.len-len.ensures.exact, ap length c.requires.searched, searched_len c.args.filter.now c.args.text.now))
 
 pub returns-clause-fit : goal.returns-clause-fit
 returns-clause-fit g c = c.loop-now.invariant.fit

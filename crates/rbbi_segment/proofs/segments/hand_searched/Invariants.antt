@@ -7,7 +7,7 @@ abbrev pub invariant-loop-now : goal.invariant-loop-now
 invariant-loop-now g l = record {
   lies : LiesIn l.text l.now;
   fit : l.marks ≡ l.initial.marks;
-  stands : HandsOn g.V.Receive.takes g.V.Receive.pauses l.unit l.filter l.table l.text l.is_whole l.initial.now l.initial.receiver
+  stands : HandsOn g.V.Receive.takes g.V.Receive.pauses l.unit l.filter l.table l.text l.extent.is_whole l.initial.now l.initial.receiver
       (g.K.Sink.taken l.initial.out) l.now l.receiver (g.K.Sink.taken l.out);
 }
 

@@ -29,7 +29,7 @@ loop-turn-preserved-then-len-enough g c =
     let less = g.R.Read.remaining c.more.new.reader in
     let waiting : List ℕ = c.loop-turn.feed.waiting.items in
     let waits : List ℕ = c.more.new.self.waiting.items in
-    let not_last : c.in_ok-is_last.is_last ≡ false = not_true c.in_ok-is_last.is_last c.is_whole-all.result c.is_whole-all.ensures.last c.if-not-all.true in
+    let not_last : c.in_ok-is_last.is_last ≡ false = not_true c.in_ok-is_last.is_last c.is_whole-is_whole.result c.is_whole-is_whole.ensures.last c.if-not-is_whole.true in
     record {
       some = omega (arith, c.more.ensures.some, so_far.some);
       fit = so_far.fit;
@@ -64,8 +64,11 @@ returns-then-is_last g c =
     streamed_last g.V.Receive.takes g.V.Receive.pauses c.args.unit c.args.filter.now c.args.table.now
     c.args.origin.is_lossy held c.args.receiver.now before less waits longer
     c.loop-turn.progress c.loop-turn.receiver now c.in_ok-is_last.is_last more g.V.Receive.ends c.in_ok-progress.progress c.hand_window.new.receiver
-    (g.K.Sink.taken c.hand_window.new.out) (g.K.Sink.taken c.end.new.out) c.is_whole-all.result ended.1 ended.0
-    (c.in_ok-progress.ensures.all (c.is_whole-all.ensures.last c.if-is_last.true)) c.in_ok-progress.ensures.handed c.in_ok-end.ensures
+    (g.K.Sink.taken c.hand_window.new.out) (g.K.Sink.taken c.end.new.out) c.is_whole-is_whole.result ended.1 ended.0
+    (⊎_elim
+    (λ all. all)
+    (λ long. absurd (omega (arith, long, c.if-pending-limit.false, c.len-in-loop-turn.ensures.exact)))
+    (c.in_ok-progress.ensures.all (c.is_whole-is_whole.ensures.last c.if-is_last.true) c.if-is_last.true)) c.in_ok-progress.ensures.handed c.in_ok-end.ensures
 
 pub loop-turn-preserved : goal.loop-turn-preserved
 loop-turn-preserved g c =
@@ -77,7 +80,7 @@ loop-turn-preserved g c =
     let longer : List ℕ = c.more.new.window in
     let now = g.K.Sink.taken c.loop-turn.out in
     let then = g.K.Sink.taken c.hand_window.new.out in
-    let after = g.K.Sink.taken c.pause.new.out in
+    let after = g.K.Sink.taken c.pause-in-loop-turn.new.out in
     let held = g.R.Read.remaining c.args.reader.now in
     let before = g.K.Sink.taken c.args.out.now in
     let later = c.in_ok-progress.progress in
@@ -87,18 +90,18 @@ loop-turn-preserved g c =
     c.in_ok-is_last.ensures.reads in
     let on = streamed_on g.V.Receive.takes g.V.Receive.pauses c.args.unit c.args.filter.now c.args.table.now
     c.args.origin.is_lossy held c.args.receiver.now before less waits longer
-    c.loop-turn.progress c.loop-turn.receiver now c.in_ok-is_last.is_last more later c.hand_window.new.receiver then c.is_whole-all.result
-    (λ is. ⊎_elim (λ last. absurd (cc (last, c.if-is_last.false))) (λ line. (c.end_lines-lines_end.ensures.0 line.0, line.1)) (c.is_whole-all.ensures.line is))
+    c.loop-turn.progress c.loop-turn.receiver now c.in_ok-is_last.is_last more later c.hand_window.new.receiver then c.is_whole-is_whole.result
+    (λ is. ⊎_elim (λ last. absurd (cc (last, c.if-is_last.false))) (λ line. (c.end_lines-lines_end.ensures.0 line.0, line.1)) (c.is_whole-is_whole.ensures.line is))
     c.in_ok-progress.ensures.handed in
     let paused = streamed_paused g.V.Receive.takes g.V.Receive.pauses c.args.unit c.args.filter.now c.args.table.now
     c.args.origin.is_lossy held c.args.receiver.now before less waits
-    longer later c.hand_window.new.receiver then c.in_ok-is_last.is_last on c.pause.new.self after c.in_ok-pause.ensures in record {
+    longer later c.hand_window.new.receiver then c.in_ok-is_last.is_last on c.pause-in-loop-turn.new.self after c.in_ok-pause-2.ensures in record {
       some = omega (arith, c.more.ensures.some, so_far.some);
       fit = c.hand_window.ensures.fit ∙ so_far.fit;
       lies = lies_shifted longer c.shift.new.window later c.in_ok-progress-2.progress c.in_ok-progress.ensures.lies c.in_ok-progress-2.ensures;
       streamed = subst (IsStreamed g.V.Receive.takes g.V.Receive.pauses c.args.unit c.args.filter.now c.args.table.now c.args.origin.is_lossy held
-          c.args.receiver.now before less waits c.shift.new.window c.in_ok-progress-2.progress c.pause.new.self after) c.if-is_last.false
+          c.args.receiver.now before less waits c.shift.new.window c.in_ok-progress-2.progress c.pause-in-loop-turn.new.self after) c.if-is_last.false
           (streamed_shifted g.V.Receive.takes g.V.Receive.pauses c.args.unit c.args.filter.now c.args.table.now c.args.origin.is_lossy held c.args.receiver.now
-          before less waits longer later c.pause.new.self after c.in_ok-is_last.is_last paused c.shift.new.window c.in_ok-progress-2.progress
+          before less waits longer later c.pause-in-loop-turn.new.self after c.in_ok-is_last.is_last paused c.shift.new.window c.in_ok-progress-2.progress
           c.in_ok-progress.ensures.lies c.in_ok-progress-2.ensures);
     }

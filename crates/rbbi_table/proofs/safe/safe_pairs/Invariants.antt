@@ -1,15 +1,7 @@
 use Rattle.std.proofs.Common.{◌≡◌, ◌+◌, ◌*◌, ◌/◌, [], length}
 use Rattle.rbbi_table.specs.Parts.{rows_of}
-use Rattle.rbbi_table.specs.inner.Targets.{AreTargets}
-use Rattle.rbbi_table.proofs.PairLemmas.{AreFirstPairs}
+use Rattle.rbbi_table.specs.inner.Targets.{AreFirstPairs}
 use Rattle.rbbi_table.proofs.safe.safe_pairs.Given as goal
-
-abbrev pub invariant-loop-second : goal.invariant-loop-second
-invariant-loop-second l = record {
-  all : length l.bytes.items ≡ (l.width * l.width + 7) / 8;
-  targets : AreTargets (rows_of l.width l.rows l.cells []) l.first l.targets.items;
-  pairs : AreFirstPairs (rows_of l.width l.rows l.cells []) l.bytes.items (l.first * l.width + l.second);
-}
 
 abbrev pub invariant-loop-first : goal.invariant-loop-first
 invariant-loop-first l = record {

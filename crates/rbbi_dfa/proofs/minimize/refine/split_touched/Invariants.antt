@@ -7,4 +7,4 @@ abbrev pub invariant-loop-class : goal.invariant-loop-class
 invariant-loop-class l = IsRefinedBeside l.automaton l.partition.classes.items l.partition.firsts.items l.inside
 
 abbrev pub decreases-loop-class : goal.decreases-loop-class
-decreases-loop-class l = length l.tally.touched.items
+decreases-loop-class l = length l.guide.tally.touched.items

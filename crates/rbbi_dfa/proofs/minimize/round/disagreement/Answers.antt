@@ -22,6 +22,6 @@ loop-row-preserved c =
     ≡ slice_index partition.classes.items (step c.args.automaton.now (slice_index partition.firsts.items (slice_index partition.classes.items row)) category))
     c.loop-row.row
     (λ row h. c.loop-row.invariant row category h k)
-    (c.loop-category.invariant category (omega (arith, c.loop-category-test.false, ap (λ (table : Table). table.categories) c.automaton.view_is))
+    (c.in_default.ensures category k
     ∙ ap (λ row. slice_index partition.classes.items (step c.args.automaton.now row category)) first)
     row h

@@ -1,4 +1,4 @@
--- All rows before this one agree with the first row of their class, and this row does by the categories before this one.
+-- All rows before this one agree with the first row of their class.
 use Rattle.std.proofs.Common.{◌≡◌, ℕ, ◌<◌, slice_index}
 use Rattle.rbbi_model.specs.Tables.{step}
 use Rattle.rbbi_dfa.proofs.minimize.round.disagreement.Given as goal
@@ -8,9 +8,3 @@ invariant-loop-row l =
     (row category : ℕ) → row < l.row → category < l.automaton.categories →
     slice_index l.partition.classes.items (step l.automaton row category)
     ≡ slice_index l.partition.classes.items (step l.automaton (slice_index l.partition.firsts.items (slice_index l.partition.classes.items row)) category)
-
-abbrev pub invariant-loop-category : goal.invariant-loop-category
-invariant-loop-category l =
-    (category : ℕ) → category < l.category →
-    slice_index l.partition.classes.items (step l.automaton l.row category)
-    ≡ slice_index l.partition.classes.items (step l.automaton l.first category)

@@ -18,7 +18,7 @@ answered g c =
 
 moved : (g : Over) (c : After-text g) → c.preceding.new.self.state ≡ record { text = c.args.self.now.state.text; cursor = c.in-Some.at }
 moved g c =
-    back_there c.loop-at.self-inside.list.now c.args.self.now c.args.o c.loop-at.self-inside.session c.preceding.new.self c.loop-at.from c.args.steps.now
+    back_there (g.A.Lists.list_of c.loop-at.self-inside.held) c.args.self.now c.args.o c.loop-at.self-inside.session c.preceding.new.self c.loop-at.from c.args.steps.now
     c.loop-at.steps c.loop-at.invariant.passing c.in-Some.at (answered g c)
 
 same : (g : Over) (c : After-text g) → g.T.Chars.characters c.text.result.now ≡ c.args.self.now.state.text
@@ -27,33 +27,27 @@ same g c = c.text.ensures ∙ ap (λ s. s.text) (moved g c)
 pub loop-at-init : goal.loop-at-init
 loop-at-init g c = record {
   passing = record {
-    same = same_at_first c.self.inside.list.now c.self.inside.session c.args.self.now c.self.view_is;
+    same = same_at_first (g.A.Lists.list_of c.self.inside.held) c.self.inside.session c.args.self.now c.self.view_is;
     some = c.requires.some;
     within = c.requires.within;
     last = refl;
     more = omega arith;
     paid = omega arith;
   };
-  tells = c.self.invariant.1;
   left = omega arith;
 }
 
-pub is_suppressed-requires-clause-tells : goal.is_suppressed-requires-clause-tells
-is_suppressed-requires-clause-tells g c = c.loop-at.invariant.tells
-
 pub invariant_of-self : goal.invariant_of-self
 invariant_of-self g c =
-    let here = (goal.at.invariant_of-self g c).After-text in (
-      ap (λ s. is_suppressed c.loop-at.self-inside.list.now s.text s.cursor) (moved g here)
-          ∙ looked_told c.loop-at.self-inside.list.now c.args.self.now.state.text _ c.in-Some.at c.is_suppressed.result c.is_suppressed.ensures.exact
-          (same g here) c.if-not-is_suppressed.true,
-      c.loop-at.invariant.tells,
-    )
+    let here = (goal.at.invariant_of-self g c).After-text in
+    ap (λ s. is_suppressed (g.A.Lists.list_of c.loop-at.self-inside.held) s.text s.cursor) (moved g here)
+    ∙ looked_told (g.A.Lists.list_of c.loop-at.self-inside.held) c.args.self.now.state.text _ c.in-Some.at c.is_suppressed.result c.is_suppressed.ensures.exact
+    (same g here) c.if-not-is_suppressed.true
 
 pub returns-then-not-is_suppressed : goal.returns-then-not-is_suppressed
 returns-then-not-is_suppressed g c =
     let here = (goal.at.returns-then-not-is_suppressed g c).After-text in
-    let list = c.loop-at.self-inside.list.now in
+    let list = (g.A.Lists.list_of c.loop-at.self-inside.held) in
     let tells = looked_told list c.args.self.now.state.text _ c.in-Some.at c.is_suppressed.result c.is_suppressed.ensures.exact (same g here)
     c.if-not-is_suppressed.true in
     let stops = back_stops list c.args.self.now c.args.o c.loop-at.self-inside.session c.preceding.new.self c.loop-at.from c.args.steps.now c.loop-at.steps
@@ -63,10 +57,10 @@ returns-then-not-is_suppressed g c =
 
 passed : (g : Over) (c : After-is_suppressed g) → c.is_suppressed.result ≡ true → g.T.Chars.characters c.text.result.now ≡ c.args.self.now.state.text →
     plain.Answers c.loop-at.self-inside.session (Preceding c.loop-at.from) (place_reply (Some c.in-Some.at)) c.preceding.new.self →
-    IsPassingBack c.loop-at.self-inside.list.now c.args.self.now c.args.o c.preceding.new.self c.in-Some.at c.args.steps.now c.is_suppressed.new.steps
+    IsPassingBack (g.A.Lists.list_of c.loop-at.self-inside.held) c.args.self.now c.args.o c.preceding.new.self c.in-Some.at c.args.steps.now c.is_suppressed.new.steps
     × (c.in-Some.at < c.loop-at.from)
 passed g c is same replied =
-    let list = c.loop-at.self-inside.list.now in
+    let list = (g.A.Lists.list_of c.loop-at.self-inside.held) in
     let hides = looked_hidden list c.args.self.now.state.text _ c.in-Some.at c.is_suppressed.result c.is_suppressed.ensures.exact same is in
     back_goes list c.args.self.now c.args.o c.loop-at.self-inside.session c.preceding.new.self c.loop-at.from c.args.steps.now c.loop-at.steps
     c.loop-at.invariant.passing c.in-Some.at c.preceding.new.steps c.is_suppressed.new.steps replied
@@ -76,12 +70,12 @@ pub loop-at-preserved : goal.loop-at-preserved
 loop-at-preserved g c =
     let here = (goal.at.loop-at-preserved g c).After-text in
     let goes = passed g (goal.at.loop-at-preserved g c).After-is_suppressed c.if-not-is_suppressed.false (same g here) (answered g here) in
-    record { passing = goes.0; tells = c.loop-at.invariant.tells; left = omega (arith, c.if-left-eq0.false) }
+    record { passing = goes.0; left = omega (arith, c.if-left-eq0.false) }
 
 pub returns-then-left-eq0 : goal.returns-then-left-eq0
 returns-then-left-eq0 g c =
     let here = (goal.at.returns-then-left-eq0 g c).After-text in
     let goes = passed g (goal.at.returns-then-left-eq0 g c).After-is_suppressed c.if-not-is_suppressed.false (same g here) (answered g here) in
-    let far = back_far c.loop-at.self-inside.list.now c.args.self.now c.args.o c.preceding.new.self c.in-Some.at c.args.steps.now c.is_suppressed.new.steps
+    let far = back_far (g.A.Lists.list_of c.loop-at.self-inside.held) c.args.self.now c.args.o c.preceding.new.self c.in-Some.at c.args.steps.now c.is_suppressed.new.steps
     goes.0 c.far_before.result c.far_before.new.session c.far_before.new.steps c.far_before.ensures in
     record { last = far.0; moved = far.1; cost = far.2 }

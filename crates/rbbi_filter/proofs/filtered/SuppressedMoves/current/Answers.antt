@@ -10,5 +10,5 @@ returns-clause-boundary g c =
     let at : c.current.result ≡ c.self.inside.session.state.cursor = cc (c.current.ensures.answer) in
     subst (λ s. IsPlaceOf (boundaries_of s) c.current.result) c.self.view_is
     (rw at
-    (told_place c.self.inside.list.now c.self.inside.session c.self.invariant.0
+    (told_place (g.A.Lists.list_of c.self.inside.held) c.self.inside.session c.self.invariant
     (subst (λ p. IsPlaceOf (plain.boundaries_of c.self.inside.session) p) at c.current.ensures.boundary)))

@@ -10,5 +10,5 @@ returns g c =
     let told : c.status_list.result.now ≡ statuses_at (plain.boundaries_of c.self.inside.session) c.self.inside.session.state.cursor =
     cc (c.status_list.ensures) in
     told
-    ∙ sym (told_statuses c.self.inside.list.now c.self.inside.session c.self.invariant.0)
+    ∙ sym (told_statuses (g.A.Lists.list_of c.self.inside.held) c.self.inside.session c.self.invariant)
     ∙ ap (λ s. statuses_at (boundaries_of s) s.state.cursor) c.self.view_is

@@ -8,11 +8,9 @@ use Rattle.rbbi_filter.proofs.filtered.SuppressedMoves.to_end.Goals as goal
 
 pub invariant_of-self : goal.invariant_of-self
 invariant_of-self g c =
-    let s = c.self.inside.session in (
-      ap (λ t. is_suppressed c.self.inside.list.now t.text t.cursor) c.last.ensures.answers.moved.state_is
-          ∙ end_is_told c.self.inside.list.now s.state.text (end_of (plain.boundaries_of s)) (table_covers s.table s.state.text).reach,
-      c.self.invariant.1,
-    )
+    let s = c.self.inside.session in
+    ap (λ t. is_suppressed (g.A.Lists.list_of c.self.inside.held) t.text t.cursor) c.last.ensures.answers.moved.state_is
+    ∙ end_is_told (g.A.Lists.list_of c.self.inside.held) s.state.text (end_of (plain.boundaries_of s)) (table_covers s.table s.state.text).reach
 
 pub returns-clause-end : goal.returns-clause-end
 returns-clause-end g c =

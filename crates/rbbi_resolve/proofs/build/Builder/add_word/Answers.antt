@@ -27,7 +27,7 @@ add_leaf-requires-clause-stand c =
     let inside : i < length word = let test = c.loop-test.true in omega (arith, c.count_of-end.ensures) in
     let leaf : ℕ → Option model.SetTree = λ d. Some (model.Character d) in (
       leaf (get_or word i 0),
-      (stand_parts (IsSetRow (files_of context) (division_of context)) c.args.leaves.now.rows.items c.loop.next (leaf (get_or word i 0) ∷ [])
+      (stand_parts (IsSetRow (files_of context) (division_of context)) c.args.leaves.now.rows.now.items c.loop.next (leaf (get_or word i 0) ∷ [])
           (map leaf (drop (i + 1) word))
           (subst (λ ds. StandFrom context c.args.leaves.now c.loop.next (map leaf ds)) (left word i inside) c.loop.invariant.stand)).0,
     )
@@ -44,7 +44,7 @@ loop-preserved c =
     let leaf : ℕ → Option model.SetTree = λ e. Some (model.Character e) in
     let here = subst (λ ds. AreBuilding context leaves c.args.self.now c.args.next.now (map means word) (map leaf word)
     c.args.trees.now.items c.loop.self c.loop.next c.loop.trees.items (map means ds) (map leaf ds)) (left word i inside) c.loop.invariant in
-    let own = (stand_parts (IsSetRow (files_of context) (division_of context)) leaves.rows.items c.loop.next (leaf d ∷ []) (map leaf (drop (i + 1) word))
+    let own = (stand_parts (IsSetRow (files_of context) (division_of context)) leaves.rows.now.items c.loop.next (leaf d ∷ []) (map leaf (drop (i + 1) word))
     here.stand).0 in
     building_turn context leaves _ _ _ _ _ _ _ _ _ _ _ (means d) (map means (drop (i + 1) word)) (leaf d ∷ []) (map leaf (drop (i + 1) word)) here
     c.in_ok-add_leaf.ensures.on c.in_ok-add_leaf.ensures.moved (c.in_ok-add_leaf.ensures.added (leaf d) own)

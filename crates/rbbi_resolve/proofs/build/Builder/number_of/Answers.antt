@@ -7,9 +7,9 @@ use Rattle.rbbi_resolve.proofs.build.Builder.number_of.Goals as goal
 use Rattle.rbbi_resolve.proofs.build.Builder.number_of.Goals.{In_ok-push}
 
 -- the row of the leaf
-row_at : (c : In_ok-push) → slice_get c.args.leaves.now.rows.items c.args.place ≡ Some (Some c.in-Some-index.row)
+row_at : (c : In_ok-push) → slice_get c.args.leaves.now.rows.now.items c.args.place ≡ Some (Some c.in-Some-index.row)
 row_at c =
-    let rows = c.args.leaves.now.rows.items in
+    let rows = c.args.leaves.now.rows.now.items in
     slice_get_read rows (length rows) c.args.place c.index-2.result.now (λ i. length rows)
     (lawful_inside (division_of c.args.context.now) rows c.args.place c.requires.row) c.index-2.ensures ∙ ap Some c.in-Some-index.is
 

@@ -39,7 +39,7 @@ assigned c =
     let r = c.args.self.now in
     let n = c.args.number in
     shown c
-    ∙ matches_some r.table.now (rc_value r.classes.division).bounds _ _ ((describes r.table.now (rc_value r.classes.division).bounds
+    ∙ matches_some r.table.now (rc_value r.classes.division).bounds _ _ _ ((describes r.table.now (rc_value r.classes.division).bounds
     (statement_trees r.statements.now) r.variables n n (omega arith) c.requires.reading.defined).same
     (encode_utf8_all c.args.name.now))
 

@@ -6,8 +6,7 @@ use Rattle.std.proofs.lemmas.Iterator.Consumers.{YieldsList-end}
 use Rattle.rbbi_model.proofs.Lists.{all_left, all_right}
 use Rattle.rbbi_model.specs.SetTrees as model
 use Rattle.rbbi_resolve.specs.inner.Covered.{Respects}
-use Rattle.rbbi_resolve.specs.inner.OwnLeaves.{AddsRows}
-use Rattle.rbbi_resolve.specs.inner.Contexts.{files_of, stand_of}
+use Rattle.rbbi_resolve.specs.inner.Contexts.{files_of, stand_of, AddsRows}
 use Rattle.rbbi_resolve.proofs.Adding.{no_rows, more_rows}
 use Rattle.rbbi_resolve.proofs.leaves.Leaves.add_word.Goals as goal
 

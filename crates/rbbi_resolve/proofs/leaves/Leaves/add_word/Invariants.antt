@@ -1,9 +1,8 @@
 use Rattle.std.proofs.Common.{Some, map}
 use Rattle.std.specs.List.{AllByRecursion}
 use Rattle.rbbi_model.specs.SetTrees as model
-use Rattle.rbbi_resolve.specs.inner.Contexts.{files_of, stand_of}
+use Rattle.rbbi_resolve.specs.inner.Contexts.{files_of, stand_of, AddsRows}
 use Rattle.rbbi_resolve.specs.inner.Covered.{Respects}
-use Rattle.rbbi_resolve.specs.inner.OwnLeaves.{AddsRows}
 use Rattle.rbbi_resolve.proofs.leaves.Leaves.add_word.Given as goal
 
 abbrev pub invariant-loop-c : goal.invariant-loop-c
