@@ -1,11 +1,11 @@
 /*
- * Single calls through the C library beside the same calls of ICU: c_calls TABLE RULES TEXT UNIT.
+ * Single calls through the C library beside the same calls of ICU: c_calls TABLE RULES TEXT UNIT [CASE..].
  *
  * TABLE is a table file, and RULES are the same rules in ICU's syntax. Both files RULES and TEXT are in
  * UTF-8. UNIT is 8 or 16: both sides take the text in UTF-8 or in UTF-16, and count in its units. ICU's
  * text is a UText over a flat buffer, which an edit writes to and ubrk_setUText tells of.
  *
- * A line is printed for each case: its name, and the nanoseconds of processor time that a call of rbbi
+ * A line is printed for each case, or for those that are named: its name, and the nanoseconds of processor time that a call of rbbi
  * and one of ICU takes. Each is the least of five rounds, which are taken in turn. A round begins with a
  * session that was just opened. If both sides don't give the same places, the status is 1.
  */
@@ -21,7 +21,7 @@
 #include <unicode/utf16.h>
 #include <unicode/utf8.h>
 
-enum { ROUNDS = 5, MOST = 20000, MILLION = 1000000, SCREEN = 4000, BEHIND = 1000, ROOM = 4096 };
+enum { ROUNDS = 5, MOST = 20000, MILLION = 1000000, SCREEN = 4000, BEHIND = 1000, ROOM = 4096, ROW = 80 };
 
 static int wide;               /* whether the unit is 16 bits */
 static const void *text;       /* the text in the unit */
@@ -29,6 +29,7 @@ static uint32_t length;        /* how many units it has */
 static uint32_t million;       /* the first boundary after its first million characters, or its end */
 static uint32_t at[MOST];      /* random places, at each of which a character begins */
 static uint32_t sizes[MOST];   /* and how many units that has */
+static uint32_t rows[MOST];    /* and how many units ROW characters from there on have */
 static uint32_t middle;        /* such a place in the middle */
 static uint32_t near_end;      /* and one about BEHIND units before the end */
 
@@ -153,11 +154,46 @@ static uint64_t icu_list(void) {
     return sum;
 }
 
+/* The boundaries of a text that no session holds, with their statuses, many at a time. */
+static uint64_t offsets[ROOM];
+
+static uint64_t our_scan(uint32_t place, uint32_t units) {
+    uint64_t resume = 0, sum = 0;
+    size_t count = 0;
+    int answer;
+    do {
+        answer = wide ? rbbi_breaks_utf16(&table, (const uint16_t *)text + place, units, resume, offsets, statuses,
+                                          ROOM, &count, &resume)
+                      : rbbi_breaks(&table, (const char *)text + place, units, resume, offsets, statuses, ROOM,
+                                    &count, &resume);
+        if (count > 0) sum = sum * 31 + offsets[count - 1] + statuses[count - 1] + count;
+    } while (answer == RBBI_ROOM);
+    must(answer == RBBI_OK, "breaks");
+    return sum;
+}
+
+static uint64_t icu_scan(uint32_t place, uint32_t units) {
+    uint64_t sum = 0;
+    size_t count = 0;
+    view = wide ? utext_openUChars(view, (const UChar *)text + place, units, &status)
+                : utext_openUTF8(view, (const char *)text + place, units, &status);
+    ubrk_setUText(icu, view, &status);
+    for (uint32_t end = (uint32_t)ubrk_first(icu); end < units;) {
+        places[count] = end = (uint32_t)ubrk_next(icu);
+        statuses[count++] = (uint32_t)ubrk_getRuleStatus(icu);
+        if (count == ROOM || end >= units) {
+            sum = sum * 31 + places[count - 1] + statuses[count - 1] + count;
+            count = 0;
+        }
+    }
+    return sum;
+}
+
 /* The cases, and how many calls of each a round makes. CHANGE puts a character in place of one of as many
    units. TYPE puts a letter after the one before, near the end, so that ICU's buffer moves little. OPEN
    opens the text and asks for the boundaries of a screen; in COPY ICU copies the text first, as a session
-   does. */
-enum kind { NEXT, PREVIOUS, FOLLOWING, PRECEDING, IS_BOUNDARY, CHANGE, TYPE, OPEN, COPY, LIST, KINDS };
+   does. SCAN and ROWS have all boundaries of a text that no session holds: the whole one, and a row. */
+enum kind { NEXT, PREVIOUS, FOLLOWING, PRECEDING, IS_BOUNDARY, CHANGE, TYPE, OPEN, COPY, LIST, SCAN, ROWS, KINDS };
 
 static const struct {
     const char *name;
@@ -165,6 +201,7 @@ static const struct {
 } CASES[KINDS] = {
     {"next", MOST}, {"previous", MOST}, {"following", MOST}, {"preceding", MOST}, {"is_boundary", MOST},
     {"change", MOST / 4}, {"type", MOST / 4}, {"open", 1}, {"copy", 1}, {"list", 1},
+    {"scan", 1}, {"row", MOST},
 };
 
 /* What the i-th call of a case answers. */
@@ -184,6 +221,8 @@ static uint64_t ours(enum kind kind, int i) {
         our_open(&second);
         while (place < SCREEN) must(rbbi_session_next(&second, &place) == RBBI_OK, "next");
         break;
+    case SCAN: return our_scan(0, length);
+    case ROWS: return our_scan(at[i], rows[i]);
     default: return our_list();
     }
     must(answer == RBBI_OK, CASES[kind].name);
@@ -208,6 +247,8 @@ static uint64_t icus(enum kind kind, int i) {
         icu_open();
         while (place < SCREEN) place = (uint32_t)ubrk_next(icu);
         return place;
+    case SCAN: return icu_scan(0, length);
+    case ROWS: return icu_scan(at[i], rows[i]);
     default: return icu_list();
     }
 }
@@ -269,15 +310,26 @@ static void set_up(char **words) {
     for (int i = 0; i < MOST; i++) {
         at[i] = end_at(start_at(draw(length - 10)));
         sizes[i] = end_at(at[i]) - at[i];
+        rows[i] = at[i];
+        for (int k = 0; k < ROW && rows[i] < length; k++) rows[i] = end_at(rows[i]);
+        rows[i] -= at[i];
     }
     near_end = start_at(length - BEHIND);
     middle = start_at(length / 2);
 }
 
+/* Whether a case is asked for: among these words, where there are any. */
+static int is_wanted(enum kind kind, int count, char **words) {
+    int found = count == 0;
+    for (int i = 0; i < count; i++) found |= strcmp(words[i], CASES[kind].name) == 0;
+    return found;
+}
+
 int main(int count, char **words) {
-    must(count == 5, "TABLE RULES TEXT UNIT");
+    must(count >= 5, "TABLE RULES TEXT UNIT [CASE..]");
     set_up(words);
     for (enum kind kind = 0; kind < KINDS; kind++) {
+        if (!is_wanted(kind, count - 5, words + 5)) continue;
         double least[2] = {INFINITY, INFINITY};
         for (int round = 0; round < ROUNDS; round++) {
             uint64_t sums[2] = {0, 0};

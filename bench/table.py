@@ -730,6 +730,32 @@ def calls(bench):
             yield Calls(f'{what}, {kind}', found[name], most)
 
 
+def scan(bench):
+    """`rbbi_breaks` of a text in memory, beside ICU's `next` with statuses, and of rows of 80 characters."""
+    ratios = []
+    cases = itertools.product(('grapheme', 'word', 'sentence', 'line'), inputs.TEXTS, bench.sizes, ('8', '16'))
+    for name, kind, size, unit in cases if bench.c_calls else []:
+        words = [bench.c_calls, table_file(bench, name), bench.rules(name)[2],
+                 inputs.make_text(bench.folder, kind, size), unit, 'scan']
+        is_row = (name, kind, size) == ('word', 'prose', ONE_MILLION)
+        run = subprocess.run(words + ['row'] * is_row, stdout=subprocess.PIPE, text=True, check=True)
+        found = {case: (float(ours) / 1e9, float(icu) / 1e9)
+                 for case, ours, icu in map(str.split, run.stdout.splitlines())}
+        ours, icu = found['scan']
+        ratios.append(icu / ours)
+        yield Line(f'`rbbi_breaks`, {name}.rules, {kind}, {size // ONE_MILLION} M, UTF-{unit}', target='2.5 times ICU',
+                   rate=rate_text(size / ours), icu=rate_text(size / icu), ratio=f'{icu / ours:.2f}',
+                   verdict='met' if icu / ours >= 2.5 else f'{icu / ours:.2f} times')
+        if is_row:
+            row, beside = found['row']
+            most = 80 * ours / size + 1e-6
+            yield Line(f'`rbbi_breaks`, {name}.rules, {kind}, a row of 80 characters, UTF-{unit}',
+                       time=time_text(row), target='1 µs over the search', icu=time_text(beside),
+                       ratio=f'{beside / row:.2f}', verdict=verdict(row, most))
+    if ratios:
+        yield mean_of(ratios, 4)
+
+
 def python(bench):
     """All boundaries of a text through Python, which gets them as arrays."""
     line = Line('Python: `Session.boundaries`, word.rules, prose, 1 M', target='15.0 M/s')
@@ -748,11 +774,11 @@ def python(bench):
 
 
 GROUPS = [start, texts, printing, compiling, front, limits, tables, loop, sessions, questions, units,
-          segment_units, filters, same, tally, nexts, kit, tests, demo, parts, python, calls]
+          segment_units, filters, same, tally, nexts, kit, tests, demo, parts, python, calls, scan]
 
 # The group that doesn't run the program that is measured.
 WITHOUT_PROGRAM = [segment_units]
 
 # The groups that want the program of single calls, and the C library.
 OF_PARTS = [loop, nexts, kit, parts, calls]
-OF_LIBRARY = [python, calls]
+OF_LIBRARY = [python, calls, scan]

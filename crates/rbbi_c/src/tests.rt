@@ -329,7 +329,7 @@ fn a_text_that_no_session_holds_is_searched(rt: HostRuntime) {
         &mut given,
     );
     assert!(rt; code == codes::OK && given.count == 2 && starts[1] == 2 && ends[1] == 3);
-    let units = [0x2e, 0xdc00];
+    let units = [0x2e, 0x2e, 0xdc00];
     let code = rbbi_c_breaks_utf16(
         memory,
         &mut table,
@@ -339,7 +339,7 @@ fn a_text_that_no_session_holds_is_searched(rt: HostRuntime) {
         &mut [],
         &mut given,
     );
-    assert!(rt; code == codes::LONE && given.count == 1 && given.place == 1 && ends[0] == 1);
+    assert!(rt; code == codes::LONE && given.count == 1 && given.place == 2 && ends[0] == 1);
     let code = rbbi_c_words_utf16(
         memory,
         &mut table,
