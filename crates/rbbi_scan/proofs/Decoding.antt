@@ -1,5 +1,5 @@
 -- Characters that are decoded one after the other, and units that begin with none.
-use Rattle.std.proofs.Common.{◌≡◌, ◌≢◌, ℕ, ◌+◌, ◌-◌, ◌*◌, ◌<◌, ◌≤◌, ◌⊎◌, List, [], ◌∷◌, ◌++◌, length, take, drop, set, get_or, refl, sym, ap, ◌∙◌, subst}
+use Rattle.std.proofs.Common.{◌≡◌, ◌≢◌, ℕ, ◌+◌, ◌*◌, ◌<◌, ◌≤◌, ◌⊎◌, List, [], ◌∷◌, ◌++◌, length, take, drop, set, get_or, refl, sym, ap, ◌∙◌, subst}
 use Rattle.std.proofs.Common.{⊎_elim, arith, append_assoc, length-append, length-drop, length-take, length-set, sum_by}
 use Rattle.std.specs.Prelude.{IsUtf8, encode_utf8}
 use Rattle.std.specs.Str.{IsAscii, IsValidUpTo}
@@ -14,7 +14,7 @@ use Rattle.rbbi_model.specs.Units.{size_of, offset_of}
 use Rattle.rbbi_model.specs.Words.{IsCharacter, IsText}
 use Rattle.rbbi_model.proofs.Lists.{all_append}
 use Rattle.rbbi_text.proofs.MilestoneLemmas.{sum_small}
-use Rattle.rbbi_scan.specs.Decoded.{AreEnds, IsDecoded}
+use Rattle.rbbi_scan.specs.Decoded.{IsDecoded}
 use Rattle.rbbi_scan.specs.Spelled.{spelling_of, spelled, BeginWithNone}
 use Rattle.rbbi_scan.proofs.Spelling.{size_is, size_some, scalar_of}
 

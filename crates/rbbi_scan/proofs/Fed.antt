@@ -1,5 +1,5 @@
 -- What is given of a text that is fed piece by piece.
-use Rattle.std.proofs.Common.{◌≡◌, ℕ, ◌+◌, ◌-◌, ◌^◌, ◌<◌, ◌≤◌, ◌⊎◌, Bool, true, false, eqb, List, [], ◌∷◌, ◌++◌, length, take, drop, refl, sym, ap, ◌∙◌, subst}
+use Rattle.std.proofs.Common.{◌≡◌, ℕ, ◌+◌, ◌-◌, ◌^◌, ◌<◌, ◌≤◌, false, List, ◌++◌, length, take, drop, refl, sym, ap, ◌∙◌, subst}
 use Rattle.std.proofs.Common.{inl, inr, ⊎_elim, arith, append_assoc, length-append, length-drop, length-take, take-append-drop}
 use Rattle.std.specs.Prelude.{IsTrue, map, ◌==◌}
 use Rattle.std.proofs.lemmas.Bool.{cond_both, cases_lt, eqb-true, eq-eqb, false≢true}
@@ -16,9 +16,9 @@ use Rattle.rbbi_scan.specs.Columns.{Columns}
 use Rattle.rbbi_scan.specs.Feeding.{HasGiven, Begins, HasFed, HasStopped}
 use Rattle.rbbi_scan.specs.Giving.{Gives, StopsFor, ends_of, greatest_of}
 use Rattle.rbbi_scan.specs.Leading.{Lead}
-use Rattle.rbbi_scan.specs.Scanning.{IsTextOver, ScansOn}
+use Rattle.rbbi_scan.specs.Scanning.{ScansOn}
 use Rattle.rbbi_scan.specs.Segments.{Segment, segments_of}
-use Rattle.rbbi_scan.specs.Spelled.{BeginWithNone, IsFaultAt, IsTextIn}
+use Rattle.rbbi_scan.specs.Spelled.{BeginWithNone, IsTextIn}
 use Rattle.rbbi_scan.specs.Stops.{IsStopFrom}
 use Rattle.rbbi_scan.specs.declared.reached.Reached.{Reached}
 use Rattle.rbbi_scan.specs.declared.reached.Stop.{Stop}

@@ -1,7 +1,7 @@
 -- Boundaries of a window that are written one after the other.
 use Rattle.std.proofs.Common.{◌≡◌, ℕ, cond, eqb, false, ◌+◌, ◌-◌, ◌<◌, ◌≤◌, ◌⊎◌, Bool, true, List, [], ◌∷◌, ◌++◌, length, get_or, set, refl, sym, ap, ◌∙◌, subst, inl, inr}
 use Rattle.std.proofs.Common.{⊎_elim, arith}
-use Rattle.std.specs.Prelude.{IsTrue, not, ◌||◌, map, slice_range}
+use Rattle.std.specs.Prelude.{not, ◌||◌, map, slice_range}
 use Rattle.rbbi_model.specs.declared.unit.Unit.{Unit as TextUnit}
 use Rattle.rbbi_model.specs.Boundaries.{Boundary}
 use Rattle.rbbi_model.specs.Places.{largest}

@@ -1,19 +1,18 @@
 -- Boundaries that lead on, and what is given of them.
-use Rattle.std.proofs.Common.{◌≡◌, ℕ, zero, suc, ◌+◌, ◌-◌, ◌<◌, ◌≤◌, ◌⊎◌, Bool, true, false, cond, ltb, List, [], ◌∷◌, ◌++◌, length, refl, sym, ap, ◌∙◌, subst}
-use Rattle.std.proofs.Common.{inl, inr, ⊎_elim, arith, length-append, append-nil, append_assoc}
-use Rattle.std.specs.Prelude.{IsTrue, filter, map, nat_lt}
+use Rattle.std.proofs.Common.{◌≡◌, ℕ, ◌+◌, Bool, List, [], ◌∷◌, ◌++◌, length, refl, sym, ap, ◌∙◌, subst}
+use Rattle.std.proofs.Common.{arith, length-append, append_assoc}
+use Rattle.std.specs.Prelude.{map}
 use Rattle.std.proofs.lemmas.List.{map-append, length-map}
 use Rattle.rbbi_model.specs.declared.unit.Unit.{Unit as TextUnit}
 use Rattle.rbbi_model.specs.Boundaries.{Boundary}
 use Rattle.rbbi_model.specs.Places.{largest}
 use Rattle.rbbi_model.specs.Tables.{Table}
 use Rattle.rbbi_model.specs.Units.{offset_of}
-use Rattle.rbbi_model.specs.Searches.{look_end, next_boundary}
 use Rattle.rbbi_scan.specs.Columns.{Columns, IsFilled}
 use Rattle.rbbi_scan.specs.Giving.{GivesOn}
 use Rattle.rbbi_scan.specs.Leading.{Lead}
 use Rattle.rbbi_scan.specs.Segments.{Segment, segment_to, segments_of}
-use Rattle.rbbi_scan.proofs.Columns.{filled_none, filled_one, filled_append}
+use Rattle.rbbi_scan.proofs.Columns.{filled_none, filled_append}
 
 pub lead_append : (is_whole : Bool) (table : Table) (x : List ℕ) (place mid last : ℕ) (these those : List Boundary) → Lead is_whole table x place these mid →
     Lead is_whole table x mid those last → Lead is_whole table x place (these ++ those) last

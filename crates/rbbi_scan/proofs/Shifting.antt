@@ -1,29 +1,27 @@
 -- Boundaries of the rest of a text are those of the text, moved by where the rest begins.
-use Rattle.std.proofs.Common.{◌≡◌, ℕ, ◌+◌, ◌-◌, ◌<◌, ◌≤◌, ◌⊎◌, Bool, true, false, List, [], ◌∷◌, ◌++◌, length, take, drop, get_or, refl, sym, ap, ◌∙◌, subst}
+use Rattle.std.proofs.Common.{◌≡◌, ℕ, ◌+◌, ◌<◌, ◌≤◌, Bool, false, List, [], ◌∷◌, ◌++◌, length, take, drop, get_or, refl, sym, ap, ◌∙◌, subst}
 use Rattle.std.proofs.Common.{inl, inr, ⊎_elim, arith, append_assoc, append-nil, length-append, length-drop, length-take, take-append-drop}
-use Rattle.std.specs.Prelude.{IsTrue, map, ◌==◌}
-use Rattle.std.proofs.lemmas.Bool.{cases_lt, eqb-true, eq-eqb}
-use Rattle.std.proofs.lemmas.List.{map-append, length-map, drop-drop, drop_at, ext_get_or, get_or-take}
+use Rattle.std.specs.Prelude.{IsTrue, map}
+use Rattle.std.proofs.lemmas.List.{drop-drop, drop_at, ext_get_or, get_or-take}
 use Rattle.std.proofs.lemmas.List.Concat.{flat_map-append}
 use Rattle.rbbi_model.specs.declared.unit.Unit.{Unit as TextUnit}
-use Rattle.rbbi_model.specs.declared.unit.Unit.TheVariants.{Utf8}
 use Rattle.rbbi_model.specs.Boundaries.{Boundary}
 use Rattle.rbbi_model.specs.Places.{largest}
 use Rattle.rbbi_model.specs.Tables.{Table, statuses_of}
 use Rattle.rbbi_model.specs.Units.{offset_of}
-use Rattle.rbbi_model.specs.Words.{IsCharacter, most_characters}
-use Rattle.rbbi_model.specs.Searches.{look_end, next_boundary}
+use Rattle.rbbi_model.specs.Words.{IsCharacter}
+use Rattle.rbbi_model.specs.Searches.{next_boundary}
 use Rattle.rbbi_model.specs.ReadAlike.{FindsAlike}
-use Rattle.rbbi_model.proofs.Found.{found_lies, least_lies}
+use Rattle.rbbi_model.proofs.Found.{found_lies}
 use Rattle.rbbi_model.proofs.Lists.{all_drop}
 use Rattle.rbbi_scan.specs.Columns.{IsFilled}
-use Rattle.rbbi_scan.specs.Giving.{ends_of, greatest_of, GivesOn, Gives}
+use Rattle.rbbi_scan.specs.Giving.{ends_of, greatest_of}
 use Rattle.rbbi_scan.specs.Leading.{Lead}
 use Rattle.rbbi_scan.specs.Segments.{segments_of}
 use Rattle.rbbi_scan.specs.Spelled.{spelling_of, spelled, BeginWithNone, IsTextIn}
 use Rattle.rbbi_scan.specs.Windows.{IsWindow}
 use Rattle.rbbi_scan.proofs.Spelling.{length_spelled}
-use Rattle.rbbi_scan.proofs.Windows.{length_is, alike, offset_in}
+use Rattle.rbbi_scan.proofs.Windows.{alike, offset_in}
 
 module _ (table : Table) (all : List ℕ) (base : ℕ) (within : base ≤ length all) where
   -- the rest of the text

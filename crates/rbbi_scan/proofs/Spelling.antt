@@ -1,6 +1,6 @@
 -- How much characters take in a unit, and that units begin with one text alone.
-use Rattle.std.proofs.Common.{◌≡◌, ℕ, ◌+◌, ◌-◌, ◌/◌, ◌%◌, ◌<◌, ◌≤◌, ◌⊎◌, Bool, true, false, cond, ltb, List, [], ◌∷◌, ◌++◌, length, take, drop, refl, sym, ap}
-use Rattle.std.proofs.Common.{◌∙◌, ◌&&◌, inl, inr, ⊎_elim, arith, append_assoc, append-nil, length-append}
+use Rattle.std.proofs.Common.{◌≡◌, ℕ, ◌+◌, ◌-◌, ◌/◌, ◌%◌, ◌<◌, ◌≤◌, true, false, cond, ltb, List, [], ◌∷◌, ◌++◌, length, refl, sym, ap}
+use Rattle.std.proofs.Common.{◌∙◌, ◌&&◌, ⊎_elim, arith, append_assoc, length-append}
 use Rattle.std.specs.Prelude.{encode_utf8, chars, sum_by}
 use Rattle.std.specs.Char.{IsScalar}
 use Rattle.std.specs.Char.Escape.{encode_utf16}
@@ -11,7 +11,7 @@ use Rattle.std.proofs.lemmas.List.Sums.{sum_by-cons}
 use Rattle.std.proofs.lemmas.Str.{chars-append, IsUtf8-encode, length-encode, len_utf8_bounds}
 use Rattle.rbbi_model.specs.declared.unit.Unit.{Unit as TextUnit}
 use Rattle.rbbi_model.specs.declared.unit.Unit.TheVariants.{Chars, Utf8, Utf16}
-use Rattle.rbbi_model.specs.Units.{size_of, offset_of}
+use Rattle.rbbi_model.specs.Units.{size_of}
 use Rattle.rbbi_model.specs.Words.{IsCharacter, IsText}
 use Rattle.rbbi_text.proofs.Pushed.{one_character}
 use Rattle.rbbi_scan.specs.Spelled.{spelling_of, spelled, BeginWithNone}

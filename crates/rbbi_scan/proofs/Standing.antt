@@ -1,9 +1,9 @@
 -- A window that was decoded from the units of a text, and where it stands in the text.
-use Rattle.std.proofs.Common.{◌≡◌, ℕ, cond, eqb, zero, suc, ◌+◌, ◌-◌, ◌<◌, ◌≤◌, ◌⊎◌, Bool, true, false, List, [], ◌∷◌, ◌++◌, length, take, drop, get_or, refl, sym, ap, ◌∙◌, subst}
-use Rattle.std.proofs.Common.{inl, inr, ⊎_elim, arith, append_assoc, append-nil, length-append, length-drop, length-take, take-append-drop, sum_by}
+use Rattle.std.proofs.Common.{◌≡◌, ℕ, cond, eqb, zero, suc, ◌+◌, ◌-◌, ◌<◌, ◌≤◌, Bool, List, [], ◌∷◌, ◌++◌, length, take, drop, get_or, refl, sym, ap, ◌∙◌, subst}
+use Rattle.std.proofs.Common.{arith, append_assoc, length-append, length-drop, length-take, take-append-drop, sum_by}
 use Rattle.std.specs.Prelude.{IsTrue, ◌==◌}
-use Rattle.std.proofs.lemmas.Bool.{eq-eqb, ne_eqb, cases_lt, false≢true}
-use Rattle.std.proofs.lemmas.List.{drop-drop, drop_at, drop-append-le, take-append-le, take-take, take_at, get_or-take, nil_from_length}
+use Rattle.std.proofs.lemmas.Bool.{eq-eqb, ne_eqb}
+use Rattle.std.proofs.lemmas.List.{drop-drop, drop_at, drop-append-le, take-append-le, take-take, take_at, get_or-take}
 use Rattle.std.proofs.lemmas.List.Concat.{flat_map-append}
 use Rattle.std.proofs.lemmas.List.Sums.{sum_by-take-le, sum_by-cons}
 use Rattle.rbbi_model.specs.declared.unit.Unit.{Unit as TextUnit}
@@ -13,7 +13,7 @@ use Rattle.rbbi_model.proofs.Lists.{all_drop, all_right}
 use Rattle.rbbi_scan.specs.Decoded.{AreEnds, IsDecoded}
 use Rattle.rbbi_scan.specs.Filling.{StandsIn}
 use Rattle.rbbi_scan.specs.Scanning.{IsTextOver}
-use Rattle.rbbi_scan.specs.Spelled.{spelling_of, spelled, BeginWith, BeginWithNone, IsFaultAt}
+use Rattle.rbbi_scan.specs.Spelled.{spelling_of, spelled, BeginWithNone}
 use Rattle.rbbi_scan.specs.Windows.{IsWindow}
 use Rattle.rbbi_scan.proofs.Spelling.{size_is, size_some, first_of_text, rest_of_text, length_spelled, none_spelled}
 use Rattle.rbbi_scan.proofs.Windows.{length_is, offset_in}

@@ -1,5 +1,5 @@
 -- One window more: what it gives of a text, and why no more follows.
-use Rattle.std.proofs.Common.{◌≡◌, ℕ, ◌+◌, ◌-◌, ◌<◌, ◌≤◌, ◌⊎◌, Bool, true, false, List, [], ◌∷◌, ◌++◌, length, take, drop, Option, Some, None, refl, sym, ap, ◌∙◌}
+use Rattle.std.proofs.Common.{◌≡◌, ℕ, ◌+◌, ◌-◌, ◌<◌, ◌≤◌, ◌⊎◌, Bool, false, List, [], ◌++◌, length, take, drop, Option, Some, None, sym, ap, ◌∙◌}
 use Rattle.std.proofs.Common.{subst, inl, inr, ⊎_elim, arith, append-nil, length-append, length-drop}
 use Rattle.std.specs.Prelude.{IsTrue, MatchOption, ◌==◌}
 use Rattle.std.proofs.lemmas.Bool.{cases_lt, false≢true}

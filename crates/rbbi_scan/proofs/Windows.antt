@@ -1,5 +1,5 @@
 -- What is found in a window of a text is found in the text.
-use Rattle.std.proofs.Common.{◌≡◌, ℕ, ◌+◌, ◌-◌, ◌<◌, ◌≤◌, ◌⊎◌, List, [], ◌++◌, length, take, drop, Bool, true, false, refl, sym, ap, ◌∙◌}
+use Rattle.std.proofs.Common.{◌≡◌, ℕ, ◌+◌, ◌-◌, ◌<◌, ◌≤◌, ◌⊎◌, List, [], ◌++◌, length, take, drop, false, sym, ap, ◌∙◌}
 use Rattle.std.proofs.Common.{inl, inr, ⊎_elim, arith, length-append, length-drop, length-take, sum_by}
 use Rattle.std.specs.Prelude.{slice_range}
 use Rattle.std.proofs.lemmas.Bool.{cases_Bool, cases_lt, cond-true, cond-false, false≢true}
@@ -7,7 +7,6 @@ use Rattle.std.proofs.lemmas.List.{drop-append-le, take-append-le, drop-drop, ta
 use Rattle.std.proofs.lemmas.List.Sums.{sum_by-append}
 use Rattle.std.proofs.Math.Seq.{take-append-add}
 use Rattle.rbbi_model.specs.declared.unit.Unit.{Unit as TextUnit}
-use Rattle.rbbi_model.specs.Places.{least_from}
 use Rattle.rbbi_model.specs.Units.{size_of, offset_of}
 use Rattle.rbbi_model.specs.Tables.{Table, row_after, stops}
 use Rattle.rbbi_model.specs.Searches.{row_at, search_end, look_end}

@@ -1,4 +1,4 @@
-use Rattle.std.proofs.Common.{◌≡◌, ◌+◌, ◌≤◌, ℕ, refl, sym, ap, ◌∙◌, subst, arith}
+use Rattle.std.proofs.Common.{◌≡◌, refl, ◌∙◌, subst, arith}
 use Rattle.rbbi_model.specs.Words.{most_characters}
 use Rattle.rbbi_scan.specs.Columns.{columns}
 use Rattle.rbbi_scan.specs.Scanning.{ScansOn, IsFarIf}

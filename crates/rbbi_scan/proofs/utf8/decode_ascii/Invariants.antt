@@ -1,4 +1,4 @@
-use Rattle.std.proofs.Common.{◌≡◌, ◌+◌, length}
+use Rattle.std.proofs.Common.{◌+◌}
 use Rattle.rbbi_model.specs.declared.unit.Unit.TheVariants.{Utf8}
 use Rattle.rbbi_scan.specs.Decoded.{IsDecoded}
 use Rattle.rbbi_scan.proofs.utf8.decode_ascii.Given as goal

@@ -1,4 +1,4 @@
-use Rattle.std.proofs.Common.{◌≡◌, ◌≤◌, ◌⊎◌, length, take, sym, ap, ◌∙◌, subst, inl, inr, ⊎_elim, arith, length-take, refl}
+use Rattle.std.proofs.Common.{◌≡◌, length, take, sym, ap, ◌∙◌, subst, inl, inr, ⊎_elim, arith, length-take, refl}
 use Rattle.std.specs.Str.{IsValidUpTo}
 use Rattle.std.proofs.lemmas.Bool.{cases_lt}
 use Rattle.rbbi_model.specs.declared.unit.Unit.TheVariants.{Utf8}

@@ -1,4 +1,4 @@
-use Rattle.std.proofs.Common.{◌≡◌, ◌+◌, [], false, length, refl, sym, ap, ◌∙◌, subst, arith}
+use Rattle.std.proofs.Common.{[], false, refl, subst, arith}
 use Rattle.rbbi_model.specs.declared.unit.Unit.TheVariants.{Utf8}
 use Rattle.rbbi_model.specs.Words.{most_characters}
 use Rattle.rbbi_scan.specs.Columns.{columns}

@@ -1,5 +1,4 @@
-use Rattle.std.proofs.Common.{◌≡◌, ℕ, List, ◌+◌, length, drop, sym, ap, ◌∙◌, subst, arith}
-use Rattle.std.specs.Char.Escape.{encode_utf16}
+use Rattle.std.proofs.Common.{ℕ, List, drop, ap, ◌∙◌, subst, arith}
 use Rattle.std.proofs.lemmas.List.{drop-drop, take_rest}
 use Rattle.rbbi_model.specs.declared.unit.Unit.TheVariants.{Utf16}
 use Rattle.rbbi_scan.specs.Spelled.{BeginWithNone}
