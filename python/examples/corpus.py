@@ -3,7 +3,7 @@
     corpus.py TABLE FOLDER [WORKERS]
 
 TABLE is a table file, or the name of a table that is in the library, as word. A word is a segment with
-a status other than 0, as letters, digits and ideographs have by the rules of UAX #29. With
+a letter or a digit of any script, so each letter of Thai is one. With
 WORKERS the documents are mapped over so many processes by Dask, each of which loads the table once;
 without, all is done in this one. The output is the same: a line for each document, by name, with its
 number of characters and of words.
@@ -30,10 +30,8 @@ def table_of(name):
 def counted(table, name):
     """The name of a document, its number of characters, and its number of words."""
     with open(name, 'rb') as file:
-        text = file.read()
-    with table_of(table).session(text) as session:
-        words = sum(1 for segment in session if segment.status)
-        return os.path.basename(name), session.length(), words
+        text = file.read().decode()
+    return os.path.basename(name), len(text), len(table_of(table).words(text))
 
 
 def mapped(table, names, workers):

@@ -291,6 +291,54 @@ def refused(call):
     return caught.exception
 
 
+class Texts(unittest.TestCase):
+    """A text that nobody edits."""
+
+    PIECES = ['word', ' ', "can't", '32.3', '. ', '\r\n', 'e\u0301', '\u65e5\u672c', '\u0e44\u0e17\u0e22',
+              '\U0001f469\u200d\U0001f467', '\U0001d54f', '\U0001f1ed\U0001f1fa']
+
+    def test_words_of_many_scripts(self):
+        self.assertEqual(rbbi.words("can't 32.3."), ["can't", '32.3'])
+        self.assertEqual(rbbi.words('\U0001f600 \U0001d54f\U0001d54f, a_b \u0e44\u0e17!'),
+                         ['\U0001d54f\U0001d54f', 'a_b', '\u0e44', '\u0e17'])
+        self.assertEqual(rbbi.words('na\u00efve'.encode()), ['na\u00efve'.encode()])
+        self.assertEqual(rbbi.words(''), [])
+
+    def test_the_built_in_tables_split_a_text(self):
+        self.assertEqual(rbbi.graphemes('e\u0301\r\n\U0001f1ed\U0001f1fa'),
+                         ['e\u0301', '\r\n', '\U0001f1ed\U0001f1fa'])
+        self.assertEqual(rbbi.sentences('Is it 3 p.m.? No.'), ['Is it 3 p.m.? ', 'No.'])
+        self.assertEqual(rbbi.lines('one two-three'), ['one ', 'two-', 'three'])
+
+    def test_boundaries_are_those_of_a_session(self):
+        random.seed(3)
+        with Table.named('word') as table:
+            for _ in range(300):
+                text = ''.join(random.choices(self.PIECES, k=random.randint(0, 9)))
+                for given, unit in [(text, Unit.CHARS), (text.encode(), Unit.UTF8)]:
+                    with table.session(given, unit) as session:
+                        wanted, found = session.boundaries(), table.boundaries(given)
+                    self.assertEqual(list(found.places), list(wanted.places), text)
+                    self.assertEqual(list(found.statuses), list(wanted.statuses), text)
+                    self.assertEqual(given[:0].join(table.split(given)), given)
+
+    def test_more_than_one_call_of_c_is_made(self):
+        text = 'ab ' * 50000 + '\U0001f600 \u00e9'
+        with Table.named('word') as table:
+            self.assertEqual(table.words(text), ['ab'] * 50000 + ['\u00e9'])
+            self.assertEqual(table.spans(text)[-3:],
+                             [(150000, 150001), (150001, 150002), (150002, 150003)])
+
+    def test_bytes_that_are_not_utf8_are_refused(self):
+        with Table.named('word') as table, self.assertRaises(Error) as caught:
+            table.boundaries(b'ab \xff')
+        self.assertEqual(caught.exception.answer, Answer.NOT_UTF8)
+
+    def test_a_table_is_pickled(self):
+        with Table.compile(RULES) as table, pickle.loads(pickle.dumps(table)) as again:
+            self.assertEqual(again.split('ab 12'), ['ab', ' ', '12'])
+
+
 class Errors(unittest.TestCase):
     """Errors go from process to process."""
 

@@ -1,5 +1,10 @@
 """Text boundaries (characters, words, sentences, lines) by break rules, over the C library of rbbi.
 
+    import rbbi
+    rbbi.words("can't 32.3.")          # ["can't", '32.3']
+
+A text that is edited has a session, which keeps its boundaries:
+
     from rbbi import Table
     with Table.named('word') as table, table.session("can't 32.3.") as session:
         for segment in session:
@@ -21,9 +26,11 @@ from typing import (Any, Callable, ClassVar, Iterable, Iterator, NamedTuple, Opt
 
 from ._library import (LIBRARY, Answer, CChange, CFault, Error, Fault, Handle, LoneSurrogate,
                        checked)
+from ._scan import scanned
 
 __all__ = ['Answer', 'Boundaries', 'Change', 'Error', 'Fault', 'LoneSurrogate', 'Segment', 'Session',
-           'Table', 'Tally', 'Text', 'Unit', 'unicode_version', 'version']
+           'Table', 'Tally', 'Text', 'Unit', 'graphemes', 'lines', 'sentences', 'unicode_version',
+           'version', 'words']
 
 Text = Union[str, bytes]
 """A text: a `str`, or bytes of UTF-8."""
@@ -63,7 +70,8 @@ class Change(NamedTuple):
 
 
 class Boundaries(NamedTuple):
-    """Boundaries in order, each with its largest status, as two arrays of the type code `I`."""
+    """Boundaries in order, each with its largest status, as two arrays: of a session of the type code
+    `I`, of a table places of `Q` and statuses of `I`."""
     places: array[int]
     statuses: array[int]
 
@@ -206,6 +214,31 @@ class Table(_Closing):
             room = ctypes.create_string_buffer(length.value)
             checked(LIBRARY.rbbi_table_write(self._ref, room, length, ctypes.byref(length)))
         return room.raw
+
+    def __reduce__(self) -> tuple[Any, ...]:
+        return Table.load, (self.write(),)
+
+    def boundaries(self, text: Text) -> Boundaries:
+        """All boundaries of a text after 0: places in characters of a `str`, in bytes of `bytes`.
+
+        The text is searched where it is, once, and may have any length.
+        """
+        places, statuses = scanned(self._lock, self._ref, text, is_words=False)[1:]
+        return Boundaries(places, statuses)
+
+    def spans(self, text: Text) -> list[tuple[int, int]]:
+        """The segments of a text, each by its start and its end."""
+        places = self.boundaries(text).places
+        return list(zip([0, *places], places))
+
+    def split(self, text: Text) -> list[Any]:
+        """The segments of a text, which together are the text."""
+        return [text[start:end] for start, end in self.spans(text)]
+
+    def words(self, text: Text) -> list[Any]:
+        """The segments of a text with a letter or a digit of any script."""
+        starts, ends = scanned(self._lock, self._ref, text, is_words=True)[:2]
+        return [text[start:end] for start, end in zip(starts, ends)]
 
     def session(self, text: Text, unit: Unit = Unit.CHARS) -> Session:
         """A session over a text, with places in a unit."""
@@ -517,3 +550,38 @@ class Tally(_Closing):
                 room = count.value
         checked(answer)
         return dict(zip(statuses[:room], counts))
+
+
+_NAMED: dict[str, Table] = {}
+"""The tables of the library that were asked for."""
+
+
+def _named(name: str) -> Table:
+    """A table of the library, loaded once."""
+    if name not in _NAMED:
+        _NAMED[name] = Table.named(name)
+    return _NAMED[name]
+
+
+def words(text: Text) -> list[Any]:
+    """The words of a text by UAX #29: segments with a letter or a digit of any script.
+
+    In Thai, Lao, Khmer and Burmese each letter with its marks is one, in Chinese and Japanese each
+    ideograph and each letter of Hiragana.
+    """
+    return _named('word').words(text)
+
+
+def graphemes(text: Text) -> list[Any]:
+    """The characters of a text as people see them (grapheme clusters of UAX #29)."""
+    return _named('grapheme').split(text)
+
+
+def sentences(text: Text) -> list[Any]:
+    """The sentences of a text by UAX #29, each with the white space after it."""
+    return _named('sentence').split(text)
+
+
+def lines(text: Text) -> list[Any]:
+    """The parts of a text between the places where a line may or must be broken, by UAX #14."""
+    return _named('line').split(text)

@@ -124,6 +124,7 @@ def _loaded() -> Any:
     numbers, size = ctypes.POINTER(number), ctypes.c_size_t
     count, fault = ctypes.POINTER(size), ctypes.POINTER(CFault)
     text, room, flag = ctypes.c_char_p, ctypes.c_void_p, ctypes.c_int
+    wide, wides = ctypes.c_uint64, ctypes.POINTER(ctypes.c_uint64)
     taken: dict[str, list[Any]] = {
         'files_open': [handle],
         'files_add': [handle, text, text, size, fault],
@@ -132,6 +133,10 @@ def _loaded() -> Any:
         'table_named': [handle, text],
         'table_share': [handle, handle],
         'table_write': [handle, room, size, count],
+        'breaks': [handle, text, size, wide, room, room, size, count, wides],
+        'breaks_utf16': [handle, text, size, wide, room, room, size, count, wides],
+        'words': [handle, text, size, wide, room, room, room, size, count, wides],
+        'words_utf16': [handle, text, size, wide, room, room, room, size, count, wides],
         'session_open': [handle, handle, text, size, flag],
         'session_open_utf16': [handle, handle, room, size, flag, numbers],
         'session_fork': [handle, handle],
