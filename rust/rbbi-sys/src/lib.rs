@@ -96,6 +96,30 @@ extern "C" {
     ) -> c_int;
     pub fn rbbi_table_close(table: *mut rbbi_handle);
 
+    pub fn rbbi_breaks(
+        table: *mut rbbi_handle,
+        text: *const c_char,
+        length: usize,
+        from: u64,
+        places: *mut u64,
+        statuses: *mut u32,
+        room: usize,
+        count: *mut usize,
+        resume: *mut u64,
+    ) -> c_int;
+    pub fn rbbi_words(
+        table: *mut rbbi_handle,
+        text: *const c_char,
+        length: usize,
+        from: u64,
+        starts: *mut u64,
+        ends: *mut u64,
+        statuses: *mut u32,
+        room: usize,
+        count: *mut usize,
+        resume: *mut u64,
+    ) -> c_int;
+
     pub fn rbbi_session_open(
         session: *mut rbbi_handle,
         table: *mut rbbi_handle,

@@ -2,6 +2,17 @@
 //! is edited, over the C library of rbbi.
 //!
 //! ```
+//! # fn main() -> Result<(), rbbi::Error> {
+//! let table = rbbi::Table::named("word")?;
+//! let words: Vec<&str> = table.words("can't 32.3.").collect();
+//! assert_eq!(words, ["can't", "32.3"]);
+//! # Ok(())
+//! # }
+//! ```
+//!
+//! A text that is edited has a session:
+//!
+//! ```
 //! use rbbi::{Table, Unit};
 //!
 //! # fn main() -> Result<(), rbbi::Error> {
@@ -19,11 +30,13 @@
 //! time, which `&mut` sees to, and may move to another.
 
 mod error;
+mod scan;
 mod session;
 mod table;
 mod tally;
 
 pub use error::{Error, Fault};
+pub use scan::{Span, Spans};
 pub use session::{Boundaries, Change, Chunks, Segment, Segments, Session, Unit};
 pub use table::{Files, Table};
 pub use tally::Tally;

@@ -1,6 +1,6 @@
 //! Property files and tables.
 use crate::error::{checked, with_fault, Error};
-use crate::{Session, Tally, Unit};
+use crate::{Session, Spans, Tally, Unit};
 use rbbi_sys::{rbbi_handle, RBBI_INIT};
 use std::cell::UnsafeCell;
 use std::ffi::{c_int, CString};
@@ -137,6 +137,49 @@ impl Table {
             }
             file.resize(length, 0);
         }
+    }
+
+    /// The handle, which several threads may pass to the calls that `rbbi.h` names.
+    pub(crate) fn handle(&self) -> *mut rbbi_handle {
+        self.handle.get()
+    }
+
+    /// The segments of a text that nobody edits, each with its place in bytes and its status. The text is
+    /// searched where it is, and may have any length. [`Spans`] says what is refused.
+    pub fn spans<'a>(&'a self, text: &'a [u8]) -> Spans<'a> {
+        Spans::new(self, text, false)
+    }
+
+    /// Those with a letter or a digit of any script.
+    pub fn word_spans<'a>(&'a self, text: &'a [u8]) -> Spans<'a> {
+        Spans::new(self, text, true)
+    }
+
+    /// The segments of a text, each with the byte where it begins.
+    ///
+    /// # Panics
+    ///
+    /// Where memory runs out, or a search reads more than 16,777,216 characters; [`Table::spans`] has
+    /// these as errors.
+    pub fn segment_indices<'a>(&'a self, text: &'a str) -> impl Iterator<Item = (usize, &'a str)> {
+        let spans = self
+            .spans(text.as_bytes())
+            .map(|span| span.expect("a segment"));
+        spans.map(move |span| (span.start, &text[span.start..span.end]))
+    }
+
+    /// The segments of a text, which together are the text. Panics as [`Table::segment_indices`] does.
+    pub fn segments<'a>(&'a self, text: &'a str) -> impl Iterator<Item = &'a str> {
+        self.segment_indices(text).map(|(_, segment)| segment)
+    }
+
+    /// The words of a text: its segments with a letter or a digit of any script. Panics as
+    /// [`Table::segment_indices`] does.
+    pub fn words<'a>(&'a self, text: &'a str) -> impl Iterator<Item = &'a str> {
+        let spans = self
+            .word_spans(text.as_bytes())
+            .map(|span| span.expect("a word"));
+        spans.map(move |span| &text[span.start..span.end])
     }
 
     /// A session over a text, with places in a unit. The cursor is at 0.

@@ -297,6 +297,37 @@ fn property_files_are_used_and_their_faults_told() {
 }
 
 #[test]
+fn a_text_that_nobody_edits_is_searched_where_it_is() {
+    let table = Table::named("word").unwrap();
+    let text = "can't 32.3, \u{e44}\u{e17} ".repeat(400);
+    assert_eq!(table.segments(&text).collect::<String>(), text);
+    assert_eq!(
+        table.words(&text).take(4).collect::<Vec<_>>(),
+        ["can't", "32.3", "\u{e44}", "\u{e17}"]
+    );
+    assert_eq!(table.words(&text).count(), 1600);
+    let mut session = table.session(&text, Unit::Utf8).unwrap();
+    let wanted: Vec<_> = session
+        .segments()
+        .map(|found| (found.start as usize, found.end as usize, found.status))
+        .collect();
+    let found: Vec<_> = table
+        .spans(text.as_bytes())
+        .map(|span| span.unwrap())
+        .map(|span| (span.start, span.end, span.status))
+        .collect();
+    assert_eq!(found, wanted);
+    assert_eq!(table.segments("").count(), 0);
+    let damaged: Vec<_> = table.word_spans(b"ab cd \xff ef").collect();
+    assert_eq!(damaged.len(), 3);
+    assert_eq!(
+        damaged[1].as_ref().map(|span| (span.start, span.end)),
+        Ok((3, 5))
+    );
+    assert!(damaged[2].is_err());
+}
+
+#[test]
 fn threads_share_a_table() {
     let text = "can't 32.3. ".repeat(50);
     let table = Table::named("word").unwrap();
