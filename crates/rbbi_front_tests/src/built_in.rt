@@ -140,7 +140,7 @@ fn values_stand_at_the_numbers_of_the_kit(rt: HostRuntime) {
         for run in property.runs() {
             assert!(rt;
                 is_named_as_in_kit(&rt, rt.alloc(), *property, *run),
-                "{property:?} {run}"
+                "{run}"
             );
         }
     }
@@ -206,7 +206,7 @@ fn have_values(rt: &impl Abort, alloc: Global, property: Property, rows: &[(&str
 #[test]
 fn names_are_those_of_unicodes_files(rt: HostRuntime) {
     for row in &OF_FILES {
-        assert!(rt; have_values(&rt, rt.alloc(), row.0, row.1), "{:?}", row.0);
+        assert!(rt; have_values(&rt, rt.alloc(), row.0, row.1));
     }
 }
 
