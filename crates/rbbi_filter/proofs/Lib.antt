@@ -5,9 +5,6 @@ pub mod Neighbours
 pub mod Passing
 pub mod Covering
 pub mod Answering
-pub mod UnitAnswers
-pub mod UnitEdits
-pub mod UnitListing
 pub mod Filtering
 pub mod Stretches
 pub mod ListingCosts

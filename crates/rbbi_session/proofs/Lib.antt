@@ -10,3 +10,4 @@ pub mod UnitAnswering
 pub mod UnitEditing
 pub mod Recalled
 pub mod Walking
+mod SessionWalks

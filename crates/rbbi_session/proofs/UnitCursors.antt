@@ -2,26 +2,19 @@
 use Rattle.std.proofs.Common.{◌≡◌, ◌≢◌, ℕ, ◌+◌, ◌<◌, ◌≤◌, true, false, ltb, leb, List, Option, Some, None, length, refl, sym, ◌∙◌, ⊎_elim, inl, inr}
 use Rattle.std.proofs.Common.{arith, subst}
 use Rattle.std.specs.Prelude.{MatchBool, unwrap_or, ◌⊎◌}
-use Rattle.std.specs.List.{AllByRecursion}
 use Rattle.std.proofs.lemmas.Bool.{cases_lt, lt-ltb, le-ltb, lt-leb, le-leb, leb-true, leb-false, false≢true}
 use Rattle.rbbi_model.specs.declared.unit.Unit.{Unit as TextUnit}
 use Rattle.rbbi_model.specs.Places.{greatest_below}
 use Rattle.rbbi_model.specs.Units.{offset_of}
 use Rattle.rbbi_model.specs.UnitAnswers.{place_before, place_from}
-use Rattle.rbbi_model.specs.Answers.{Question, Preceding, Answer, answer}
 use Rattle.rbbi_model.proofs.Found.{least_lies, greatest_lies}
 use Rattle.rbbi_model.proofs.SearchFacts.{least_is, none_passes, greatest_is_most}
 use Rattle.rbbi_model.proofs.SearchesAlike.{least_unique}
-use Rattle.rbbi_model.proofs.Measured.{offset_rises, rises_up_to, answers_preceding, turned_answer}
+use Rattle.rbbi_model.proofs.Measured.{offset_rises, rises_up_to}
 use Rattle.rbbi_text.specs.declared.units.Index.{Index}
 use Rattle.rbbi_text.specs.Indexes.{IsIndex}
-use Rattle.rbbi_session.specs.Sessions.{boundaries_of, answer_of}
-use Rattle.rbbi_session.specs.UnitSessions.{UnitSession, offset_in, state_of}
-use Rattle.rbbi_session.specs.Walks.{reported}
-use Rattle.rbbi_session.specs.UnitWalks.{unit_view}
 use Rattle.rbbi_session.specs.KnownPlaces.{IsKnown}
 use Rattle.rbbi_session.specs.inner.UnitPlaces.{IsPlaceUpTo, IsPlaceFrom}
-use Rattle.rbbi_session.proofs.Answering.{none_past}
 
 -- what is found of a number
 module _ (unit : TextUnit) (x : List ℕ) (o : ℕ) (index : Index) (is : IsIndex unit x o index) where
@@ -166,19 +159,3 @@ before_from unit x v p within =
     (λ none. absurd (omega (arith, none, more, within)))
     is.1)
     (cases_lt p (place_from unit x v))
-
--- what is reported of a question's answer
-abbrev pub unit_answer : UnitSession → Question → Answer
-unit_answer session question = answer (reported unit_view session) (state_of session).cursor question
-
-module _ (session : UnitSession) where
-  within : AllByRecursion (λ b. b.at ≤ length session.asked.state.text) (boundaries_of session.asked)
-  within = none_past session.asked.table session.asked.state.text
-
-  -- the last boundary before an offset, by characters
-  pub preceding_told : (v : ℕ) → unit_answer session (Preceding v)
-      ≡ turned_answer (offset_in session) (answer_of session.asked (Preceding (place_from session.unit session.asked.state.text v)))
-  preceding_told v =
-      answers_preceding (offset_in session) (length session.asked.state.text) refl (offset_rises session.unit session.asked.state.text)
-      (boundaries_of session.asked) within session.asked.state.cursor v (place_from session.unit session.asked.state.text v)
-      (before_from session.unit session.asked.state.text v)

@@ -1,22 +1,21 @@
 -- Edits of a session whose places count a unit, by those of the session by characters.
-use Rattle.std.proofs.Common.{◌≡◌, ℕ, ◌+◌, ◌-◌, ◌≤◌, true, false, cond, ltb, eqb, List, Option, Some, None, length, refl, sym, ap, ◌∙◌, subst}
+use Rattle.std.proofs.Common.{◌≡◌, ℕ, ◌+◌, ◌-◌, ◌≤◌, true, false, cond, ltb, eqb, List, Option, Some, None, Result, Err, length, refl, sym, ap, ◌∙◌, subst}
 use Rattle.std.proofs.Common.{⊎_elim, arith}
 use Rattle.std.proofs.lemmas.Bool.{cases_Bool, cond-true, cond-false, le-ltb, eq-eqb, eqb-true, false≢true}
 use Rattle.rbbi_model.specs.declared.unit.Unit.{Unit as TextUnit}
 use Rattle.rbbi_model.specs.Words.{most_characters}
 use Rattle.rbbi_model.specs.Places.{greatest_below}
 use Rattle.rbbi_model.specs.Answers.{Outside, Inside, TooLong}
-use Rattle.rbbi_model.specs.Scripts.{Refused, Accepted, splice, edit}
+use Rattle.rbbi_model.specs.Scripts.{Edit, Refused, Accepted, splice, edit}
 use Rattle.rbbi_model.specs.Units.{offset_of}
 use Rattle.rbbi_model.specs.UnitAnswers.{place_at, edit_between, edit_in}
 use Rattle.rbbi_model.proofs.Found.{greatest_lies}
 use Rattle.rbbi_model.proofs.SearchFacts.{none_passes, greatest_is_most}
 use Rattle.rbbi_model.proofs.Measured.{offset_rises, rises_up_to}
-use Rattle.rbbi_session.specs.Sessions.{AcceptsEdit}
-use Rattle.rbbi_session.specs.Asking.{IsReadForEdit}
-use Rattle.rbbi_session.specs.UnitSessions.{UnitSession, offset_in}
-use Rattle.rbbi_session.specs.Walks.{IsEdited}
-use Rattle.rbbi_session.specs.UnitWalks.{unit_view}
+use Rattle.rbbi_session.specs.Walks.{View, kind_of, IsEdited, IsUnread, Edits, CountsCharacters}
+use Rattle.rbbi_session.specs.UnitWalks.{in_unit}
+use Rattle.rbbi_session.specs.declared.unit_error.UnitEditErr.{UnitEditErr}
+use Rattle.rbbi_session.specs.declared.unit_error.UnitEditErr.TheVariants as refused
 use Rattle.rbbi_text.specs.declared.units.Index.{Index}
 use Rattle.rbbi_text.specs.Indexes.{IsIndex}
 
@@ -120,6 +119,11 @@ module _ (unit : TextUnit) (x : List ℕ) (at removed : ℕ) (w : List ℕ) wher
         ⊎_elim (λ is. let differ = sym (long is) ∙ refused in cc) (λ isnt. let differ = sym (fits isnt) ∙ refused in cc)
         (cases_Bool (ltb most_characters (length x - (j - i) + length w)))
 
+    pub never_inside : edit x i (j - i) w ≡ Refused Inside → ⊥
+    never_inside refused =
+        ⊎_elim (λ is. let differ = sym (long is) ∙ refused in cc) (λ isnt. let differ = sym (fits isnt) ∙ refused in cc)
+        (cases_Bool (ltb most_characters (length x - (j - i) + length w)))
+
 -- places at the ends of an edit
 pub ends_in_order : (unit : TextUnit) (x : List ℕ) (at removed : ℕ) (first end : Index) → IsIndex unit x at first → IsIndex unit x (at + removed) end →
     first.at + (end.at - first.at) ≤ length x
@@ -127,33 +131,49 @@ ends_in_order unit x at removed first end is is' =
     let order = is'.greatest first.at is.within (omega (arith, is.before)) in
     omega (arith, order, is'.within)
 
+-- the answer of an edit that isn't made
+abbrev pub failed : UnitEditErr → Result (Unit {0}) UnitEditErr
+failed error = Err error
+
 -- what an edit between two places leaves, by the unit
-module _ (old new : UnitSession) (at removed : ℕ) (w : List ℕ) (i j k : ℕ) (unit : new.unit ≡ old.unit) (k_is : k ≡ j - i)
-    (low : at + removed ≤ offset_of old.unit old.asked.state.text (length old.asked.state.text)) (first : place_at old.unit old.asked.state.text at ≡ Some i)
-    (end : place_at old.unit old.asked.state.text (at + removed) ≡ Some j) (order : i + (j - i) ≤ length old.asked.state.text) where
-  pub unit_accepted : (before after : ℕ) → AcceptsEdit old.asked i k w new.asked → IsReadForEdit old.asked i k w new.asked before after →
-      IsEdited unit_view old at removed w new before after
-  unit_accepted before after accepts reads = record {
-    same = λ t. record { table = accepts.table_is t; unit = unit t };
-    accepted = edit_accepted old.unit old.asked.state.text at removed w i j low first end order new.asked.state.text (length new.asked.state.text)
-        (subst (λ m. edit old.asked.state.text i m w ≡ Accepted new.asked.state.text (length new.asked.state.text)) k_is accepts.accepted);
-    start = ap (λ c. offset_in new c) accepts.start;
-    paid = record { more = reads.more; cost = reads.cost };
+module _ {A Setting : Type 0} (view : View A Setting) (counts : CountsCharacters view) (unit : TextUnit) (old new : A) (at removed : ℕ) (w : List ℕ)
+    (i j k : ℕ) (k_is : k ≡ j - i) (low : at + removed ≤ offset_of unit (view.state old).text (length (view.state old).text))
+    (first : place_at unit (view.state old).text at ≡ Some i) (end : place_at unit (view.state old).text (at + removed) ≡ Some j)
+    (order : i + (j - i) ≤ length (view.state old).text) (before after : ℕ) where
+  abbrev x : List ℕ
+  x = (view.state old).text
+
+  -- by characters
+  plain : (e : Edit) → (kind_of view old).edit x i k w ≡ e → edit x i (j - i) w ≡ e
+  plain e is =
+      subst (λ m. edit x i m w ≡ e) k_is (subst (λ (f : List ℕ → ℕ → ℕ → List ℕ → Edit). f x i k w ≡ e) (counts.edits (view.setting old)) is)
+
+  pub unit_accepted : IsEdited view old i k w new before after →
+      IsEdited (in_unit view) (record { unit = unit; asked = old }) at removed w (record { unit = unit; asked = new }) before after
+  unit_accepted accepts = record {
+    same = λ t. record { below = accepts.same t; unit = unit };
+    accepted = edit_accepted unit x at removed w i j low first end order (view.state new).text ((kind_of view old).units (view.state new).text)
+        (plain (Accepted (view.state new).text ((kind_of view old).units (view.state new).text)) accepts.accepted);
+    start = ap (λ c. offset_of unit (view.state new).text c) accepts.start;
+    paid = accepts.paid;
     edits = record {
       first = i;
       end = j;
       first_is = first;
       end_is = end;
-      reads = subst (λ m. IsReadForEdit old.asked i m w new.asked before after) k_is reads;
+      reads = subst (λ m. view.edits old i m w new before after) k_is accepts.edits;
     };
   }
 
-  pub unit_too_long : edit old.asked.state.text i k w ≡ Refused TooLong → edit_in old.unit old.asked.state.text at removed w ≡ Refused TooLong
-  unit_too_long refused =
-      edit_too_long old.unit old.asked.state.text at removed w i j low first end order (subst
-      (λ m. edit old.asked.state.text i m w ≡ Refused TooLong) k_is refused)
+  unread : IsUnread view old new before after → IsUnread (in_unit view) (record { unit = unit; asked = old }) (record { unit = unit; asked = new }) before after
+  unread is = (ap (λ a. record { unit = unit; asked = a }) is.0, is.1)
 
-  pub unit_not_outside : edit old.asked.state.text i k w ≡ Refused Outside → edit_in old.unit old.asked.state.text at removed w ≡ Refused Outside
-  unit_not_outside refused =
-      edit_not_outside old.unit old.asked.state.text at removed w i j low first end order
-      (subst (λ m. edit old.asked.state.text i m w ≡ Refused Outside) k_is refused)
+  pub unit_refused : (error : UnitEditErr) → Edits view old i k w (failed error) new before after →
+      Edits (in_unit view) (record { unit = unit; asked = old }) at removed w (failed error) (record { unit = unit; asked = new }) before after
+  unit_refused refused.Outside is =
+      (edit_not_outside unit x at removed w i j low first end order (plain (Refused Outside) is.0), unread is.1)
+  unit_refused refused.Inside is =
+      absurd (never_inside unit x at removed w i j low first end order (plain (Refused Inside) is.0))
+  unit_refused refused.TooLong is =
+      (edit_too_long unit x at removed w i j low first end order (plain (Refused TooLong) is.0), unread is.1)
+  unit_refused refused.Memory is = unread is

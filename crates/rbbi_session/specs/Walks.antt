@@ -3,7 +3,7 @@ use Rattle.std.specs.Prelude.{◌≡◌, ℕ, ◌+◌, ◌≤◌, Bool, true, fa
 use Rattle.rbbi_model.specs.Boundaries.{Boundary}
 use Rattle.rbbi_model.specs.Cover.{IsPlaceOf, CoverText}
 use Rattle.rbbi_model.specs.Answers.{Question, Next, IsBoundary, Breaks, Reply, Outside, Inside, TooLong}
-use Rattle.rbbi_model.specs.Scripts.{Command, Ask, Replace, ShowText, State, Turn, turn_by, Edit, Refused, Accepted}
+use Rattle.rbbi_model.specs.Scripts.{Command, Ask, Replace, ShowText, State, Turn, turn_by, Edit, Refused, Accepted, edit}
 use Rattle.rbbi_model.specs.Costs.{edit_cost, charge_by, is_same_question, is_unkept}
 use Rattle.rbbi_text.specs.Steps.{RisesUpTo}
 use Rattle.rbbi_session.specs.declared.unit_error.UnitEditErr.{UnitEditErr}
@@ -131,3 +131,8 @@ module _ {A Setting : Type 0} (view : View A Setting) where
       (old now new : A) (earlier question : Question) (start between before after : ℕ) → (kind_of view now).recalls ≡ true →
       IsAsked view old earlier now start between → IsAsked view now question new before after → is_same_question earlier question ≡ true →
       is_unkept (Ask question) (reply_to view now question) ≡ false → after ≡ before
+
+-- places and lengths count characters
+pub record CountsCharacters {A Setting : Type 0} (view : View A Setting) : Type 0 where
+  pub units : (setting : Setting) (x : List ℕ) → (view.kind setting).units x ≡ length x
+  pub edits : (setting : Setting) → (view.kind setting).edit ≡ edit

@@ -3,7 +3,7 @@ ghost use Rattle.std.specs.Prelude.{◌≡◌, None, Some, MatchOption};
 ghost use Rattle.rbbi_model.specs.Units.{offset_of};
 ghost use Rattle.rbbi_session.specs.KnownPlaces.{IsKnown};
 
-use crate::{Holds, SessionBy};
+use crate::ByCharacters;
 use rbbi_text::{Unit, UnitText};
 
 /// A place of a text whose offset is known. Offsets near it are found from it, and not from the
@@ -19,14 +19,15 @@ pub struct Known {
 impl Known {
     /// Where the cursor of a session by characters lies: counted from this place, where it is near.
     #[inline(always)]
-    pub(crate) fn offset_of_cursor<H: Holds, T: UnitText>(
-        self,
-        asked: &SessionBy<H, T>,
-        unit: Unit,
-    ) -> u32
-        requires { IsKnown unit asked.now.state.text self }
-        ensures { result ≡ offset_of unit asked.now.state.text asked.now.state.cursor }
+    pub(crate) fn offset_of_cursor<W: ByCharacters>(self, asked: &W, unit: Unit) -> u32
+    where
+        W::Text: UnitText,
+        requires { IsKnown unit (W.view.state asked.now).text self }
+        ensures { let state = W.view.state asked.now in
+            result ≡ offset_of unit state.text state.cursor }
     {
+        W::laws();
+        W::counts_characters();
         asked
             .text()
             .offset_from(unit, self.at, self.offset, asked.current())

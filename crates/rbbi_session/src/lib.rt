@@ -8,21 +8,23 @@
 
 mod boundary;
 mod holds;
+mod in_unit;
+mod in_unit_questions;
+mod in_unit_walk;
 mod kept;
 mod known;
 mod session;
+mod session_walk;
 mod statuses;
 mod stretch;
 mod unit_error;
-mod unit_session;
-mod unit_walk;
 mod walk;
 
 pub use boundary::Boundary;
 pub use holds::Holds;
+pub use in_unit::{InUnit, UnitSession, UnitSessionBy};
 pub use kept::character_count;
 pub use session::{Session, SessionBy};
 pub use statuses::greatest;
 pub use unit_error::UnitEditErr;
-pub use unit_session::{UnitSession, UnitSessionBy};
-pub use walk::Walk;
+pub use walk::{ByCharacters, Walk};

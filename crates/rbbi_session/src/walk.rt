@@ -6,6 +6,7 @@ ghost use Rattle.rbbi_model.specs.Answers as question;
 ghost use Rattle.rbbi_session.specs.Sessions.{place_reply, test_reply};
 ghost use Rattle.rbbi_session.specs.Walks.{kind_of, reported, reply_to, IsAsked, IsAnswered};
 ghost use Rattle.rbbi_session.specs.Walks.{Edits, Cover, ListsArePaid, Recall};
+ghost use Rattle.rbbi_session.specs.Walks.{CountsCharacters};
 
 use crate::{UnitEditErr, greatest};
 use rbbi_text::{Chars, Steps};
@@ -111,4 +112,13 @@ pub trait Walk {
         ensures cover { Cover view }
         ensures lists { ListsArePaid view }
         ensures recall { Recall view };
+}
+
+/// A session whose places and lengths count characters. Its answers in a unit are those of an
+/// [`InUnit`](crate::InUnit).
+pub trait ByCharacters: Walk {
+    /// Law: places and lengths count characters. It is there for proofs, and does nothing when it
+    /// runs.
+    fn counts_characters()
+        ensures { CountsCharacters Self.view };
 }

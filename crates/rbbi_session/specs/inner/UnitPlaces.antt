@@ -3,7 +3,9 @@ use Rattle.std.specs.Prelude.{◌≡◌, ◌≢◌, ℕ, ◌<◌, ◌≤◌, Lis
 use Rattle.rbbi_model.specs.declared.unit.Unit.{Unit as TextUnit}
 use Rattle.rbbi_model.specs.Units.{offset_of}
 use Rattle.rbbi_model.specs.UnitAnswers.{place_from}
+use Rattle.rbbi_model.specs.Cover.{IsPlaceOf}
 use Rattle.rbbi_text.specs.declared.units.Index.{Index}
+use Rattle.rbbi_session.specs.Walks.{View, reported, Cover, CountsCharacters}
 
 -- the places past this one lie past the number, and the others don't
 pub record IsPlaceUpTo (unit : TextUnit) (x : List ℕ) (o at : ℕ) : Type 0 where
@@ -16,3 +18,9 @@ pub record IsPlaceFrom (unit : TextUnit) (x : List ℕ) (o : ℕ) (index : Index
   pub before : (p : ℕ) → p ≤ length x → p < index.at → offset_of unit x p < o
   pub from : (p : ℕ) → p ≤ length x → index.at ≤ p → o ≤ offset_of unit x p
   pub whole : MatchBool index.whole ((index.at ≤ length x) × (offset_of unit x index.at ≡ o)) ((p : ℕ) → p ≤ length x → offset_of unit x p ≢ o)
+
+-- a session by characters, whose boundaries cover its text, stands at one of them
+pub record StandsAt {A Setting : Type 0} (view : View A Setting) (session : A) : Type 0 where
+  pub cover : Cover view
+  pub counts : CountsCharacters view
+  pub at : IsPlaceOf (reported view session) (view.state session).cursor
