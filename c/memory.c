@@ -144,6 +144,23 @@ int main(void) {
         wrong |= length != 1 || resume != 3000 || ends[0] != 3000 || greatest[0] != 200 || ends[1] != 77;
         DONE(rbbi_words_utf16(&other, wide, 2, 0, starts, ends, greatest, 2, &length, &resume));
         wrong |= length != 1 || resume != 2 || starts[0] != 1 || ends[0] != 2 || greatest[1] != 77;
+        rbbi_scan scan = RBBI_INIT;
+        DONE(rbbi_scan_open(&scan, &other, RBBI_UTF8, 0));
+        for (int part = 0; part < 3; part++) {
+            answer = rbbi_scan_feed(&scan, text + 1000 * part, 1000, part == 2);
+            if (!is_done(answer, __LINE__)) {
+                DONE(rbbi_scan_feed(&scan, text + 1000 * part, 1000, part == 2));
+            }
+            ends[0] = 77;
+            answer = rbbi_scan_next(&scan, NULL, ends, NULL, 2, &length, &resume);
+            if (answer == RBBI_MEMORY) {
+                wrong |= length != 0 || ends[0] != 77;
+                answer = rbbi_scan_next(&scan, NULL, ends, NULL, 2, &length, &resume);
+            }
+            wrong |= answer != (part == 2 ? RBBI_OK : RBBI_DONE) || length != (part == 2);
+        }
+        wrong |= ends[0] != 3000 || resume != 3000;
+        rbbi_scan_close(&scan);
         rbbi_tally tally = RBBI_INIT;
         DONE(rbbi_tally_open(&tally, &other, text, sizeof text, RBBI_UTF8));
         wrong |= count_of(&tally, 200) != 1 || count_of(&tally, 100) != 0;

@@ -45,6 +45,11 @@ uint32_t rbbi_c_words(rbbi_table *, const uint8_t *, size_t, size_t, uint64_t *,
                       size_t, uint32_t *, size_t, given *);
 uint32_t rbbi_c_words_utf16(rbbi_table *, const uint16_t *, size_t, size_t, uint64_t *, size_t,
                             uint64_t *, size_t, uint32_t *, size_t, given *);
+uint32_t rbbi_c_scan_open(rbbi_table *, uint32_t, bool, rbbi_scan *);
+uint32_t rbbi_c_scan_feed(rbbi_scan *, const uint8_t *, size_t, bool);
+uint32_t rbbi_c_scan_feed_utf16(rbbi_scan *, const uint16_t *, size_t, bool);
+uint32_t rbbi_c_scan_next(rbbi_scan *, uint64_t *, size_t, uint64_t *, size_t, uint32_t *, size_t,
+                          given *);
 uint32_t rbbi_c_open(rbbi_table *, const uint8_t *, size_t, uint32_t, rbbi_session *);
 uint32_t rbbi_c_open_utf16(rbbi_table *, const uint16_t *, size_t, uint32_t, rbbi_session *,
                            uint32_t *);
@@ -334,6 +339,54 @@ int rbbi_words_utf16(rbbi_table *table, const uint16_t *text, size_t length, uin
     }
     return scan(table, NULL, text ? text : (const uint16_t *)nothing, length, from, starts, ends,
                 statuses, room, count, resume, true);
+}
+
+int rbbi_scan_open(rbbi_scan *scan, rbbi_table *table, int unit, int only_words) {
+    if (!scan || !table) {
+        return RBBI_NULL;
+    }
+    rbbi_table own = RBBI_INIT;
+    int answer = share(table, &own);
+    if (answer == RBBI_OK) {
+        answer = (int)rbbi_c_scan_open(&own, (uint32_t)unit, only_words != 0, scan);
+        rbbi_c_close(&own);
+    }
+    return answer;
+}
+
+int rbbi_scan_feed(rbbi_scan *scan, const char *piece, size_t length, int is_last) {
+    if (!scan || (!piece && length)) {
+        return RBBI_NULL;
+    }
+    return (int)rbbi_c_scan_feed(scan, from(piece), length, is_last != 0);
+}
+
+int rbbi_scan_feed_utf16(rbbi_scan *scan, const uint16_t *piece, size_t length, int is_last) {
+    if (!scan || (!piece && length)) {
+        return RBBI_NULL;
+    }
+    return (int)rbbi_c_scan_feed_utf16(scan, piece ? piece : (const uint16_t *)nothing, length,
+                                       is_last != 0);
+}
+
+int rbbi_scan_next(rbbi_scan *scan, uint64_t *starts, uint64_t *ends, uint32_t *statuses,
+                   size_t room, size_t *count, uint64_t *place) {
+    if (!scan || (!ends && room) || !count || !place) {
+        return RBBI_NULL;
+    }
+    given told = {*count, *place};
+    int answer = (int)rbbi_c_scan_next(scan, starts ? starts : nowhere, starts ? room : 0,
+                                       ends ? ends : nowhere, room, statuses ? statuses : none,
+                                       statuses ? room : 0, &told);
+    *count = told.count;
+    *place = told.place;
+    return answer;
+}
+
+void rbbi_scan_close(rbbi_scan *scan) {
+    if (scan) {
+        rbbi_c_close(scan);
+    }
 }
 
 int rbbi_session_open(rbbi_session *session, rbbi_table *table, const char *text, size_t length,

@@ -1,6 +1,6 @@
 /*
  * Several threads pass the handle of one table at once: each opens sessions and a tally by it, asks,
- * edits, asks for the boundaries of a text in one call, writes the table and makes handles of its own.
+ * edits, asks for the boundaries of a text in one call, feeds a text in two pieces, writes the table and makes handles of its own.
  * All find what the first thread finds alone. bin/check-c runs this under ThreadSanitizer, and under
  * helgrind, which sees the proved code as well.
  */
@@ -53,6 +53,13 @@ static found round_of(void) {
     result.wrong |= rbbi_breaks(&table, text, sizeof text - 1, 0, places, statuses, 64, &count,
                                 &resume) != RBBI_OK;
     result.wrong |= count != segments || resume != sizeof text - 1;
+    rbbi_scan scan = RBBI_INIT;
+    result.wrong |= rbbi_scan_open(&scan, &table, RBBI_UTF8, 0) != RBBI_OK;
+    result.wrong |= rbbi_scan_feed(&scan, text, 20, 0) != RBBI_OK;
+    result.wrong |= rbbi_scan_feed(&scan, text + 20, sizeof text - 21, 1) != RBBI_OK;
+    result.wrong |= rbbi_scan_next(&scan, NULL, places, statuses, 64, &count, &resume) != RBBI_OK;
+    result.wrong |= count != segments || resume != sizeof text - 1;
+    rbbi_scan_close(&scan);
     result.wrong |= rbbi_table_write(&table, file, sizeof file, &result.length) != RBBI_OK;
     result.sum = sum_of(&one, &result.wrong) + sum_of(&other, &result.wrong) + segments;
     result.wrong |= rbbi_session_replace(&one, 3, 1, "no", 2) != RBBI_OK;

@@ -2,9 +2,9 @@
  * rbbi: text boundaries (characters, words, sentences, lines) by break rules, also while the text
  * is edited. The engine is proved; docs/c.md is an introduction.
  *
- * HANDLES. A table, a session, a tally and a list of property files are each held by a handle: a
- * struct of one pointer that you own, on the stack or in a struct of yours. A handle begins as all
- * zero:
+ * HANDLES. A table, a session, a tally, a scan and a list of property files are each held by a
+ * handle: a struct of one pointer that you own, on the stack or in a struct of yours. A handle
+ * begins as all zero:
  *
  *     rbbi_table table = RBBI_INIT;
  *
@@ -14,32 +14,32 @@
  * struct that was never set, using or closing two copies of a handle, writing to what is inside,
  * and passing one address for two parameters.
  *
- * OWNERSHIP. A session or a tally keeps the table that it was opened with: tables are counted. So
- * a table's handle may be closed while they use the table, in any order. Texts, rules, files and
- * names that you pass are copied or read during the call, and stay yours. Only handles have to be
- * closed; nothing else that you receive has to be freed.
+ * OWNERSHIP. A session, a tally or a scan keeps the table that it was opened with: tables are
+ * counted. So a table's handle may be closed while they use the table, in any order. Texts, rules,
+ * files and names that you pass are copied or read during the call, and stay yours. Only handles
+ * have to be closed; nothing else that you receive has to be freed.
  *
  * THREADS. Several threads may pass one table's handle to rbbi_table_share, rbbi_table_write,
- * rbbi_breaks, rbbi_words and the calls that open a session or a tally at once: nothing changes a
- * table. These calls take turns, under a lock that is the library's only state, just to count one
- * more owner. All other calls need their handles to themselves: one thread at a time uses a session, a tally or a list
- * of property files, and no thread uses a handle while another opens or closes it. Sessions and
- * tallies of one table may be used side by side. Handles may move from thread to thread, under a
- * lock or when a thread starts or ends. A process may fork while other threads take turns: in the
- * child a table's handle is as usable as before.
+ * rbbi_breaks, rbbi_words and the calls that open a session, a tally or a scan at once: nothing
+ * changes a table. These calls take turns, under a lock that is the library's only state, just to
+ * count one more owner. All other calls need their handles to themselves: one thread at a time uses
+ * a session, a tally, a scan or a list of property files, and no thread uses a handle while another
+ * opens or closes it. Sessions, tallies and scans of one table may be used side by side. Handles may move
+ * from thread to thread, under a lock or when a thread starts or ends. A process may fork while
+ * other threads take turns: in the child a table's handle is as usable as before.
  *
- * UNITS. All places and lengths of a session or a tally count the unit that it was opened in:
- * bytes of UTF-8, 16-bit units of UTF-16, or characters (code points). They begin at 0. The text of
- * a session or a tally has at most 16,777,216 characters.
+ * UNITS. All places and lengths of a session or a tally count the unit that it was opened in: bytes
+ * of UTF-8, 16-bit units of UTF-16, or characters (code points). They begin at 0. The text of a
+ * session or a tally has at most 16,777,216 characters.
  *
  * ANSWERS. Each call but the close calls returns an int: RBBI_OK, RBBI_DONE, or an error. An error
- * leaves every handle and every number as it was, with four exceptions: RBBI_FAULT writes the fault,
- * RBBI_LONE the number of the surrogate, RBBI_ROOM the length and as much as fits, and rbbi_breaks
- * and rbbi_words write what they found. Room past what is written stays as it was. No call ends the
- * process, writes or reads a file, or waits, but for the turns above. Opening, filters, forking,
- * editing, compiling, loading, writing, rbbi_session_text, rbbi_tally_each, rbbi_breaks and
- * rbbi_words allocate memory. Other questions don't; that isn't proved, but seen by reading the
- * code.
+ * leaves every handle and every number as it was, with four exceptions: RBBI_FAULT writes the
+ * fault, RBBI_LONE the number of the surrogate, RBBI_ROOM the length and as much as fits, and
+ * rbbi_breaks, rbbi_words and rbbi_scan_next write what they found. Room past what is written stays
+ * as it was. No call ends the process, writes or reads a file, or waits, but for the turns above.
+ * Opening, filters, forking, editing, compiling, loading, writing, rbbi_session_text,
+ * rbbi_tally_each, rbbi_breaks, rbbi_words and the calls on a scan allocate memory. Other questions
+ * don't; that isn't proved, but seen by reading the code.
  */
 #ifndef RBBI_H
 #define RBBI_H
@@ -52,9 +52,9 @@ extern "C" {
 #endif
 
 /* The version of this header: new calls raise its second number, changed ones its first. */
-#define RBBI_VERSION "2.5.0"
+#define RBBI_VERSION "2.6.0"
 
-/* A list of property files, a table, a session and a tally. */
+/* A list of property files, a table, a session, a tally and a scan. */
 typedef struct rbbi_files {
     void *held;
 } rbbi_files;
@@ -71,6 +71,10 @@ typedef struct rbbi_tally {
     void *held;
 } rbbi_tally;
 
+typedef struct rbbi_scan {
+    void *held;
+} rbbi_scan;
+
 /* A handle that holds nothing. */
 /* clang-format off */
 #define RBBI_INIT { NULL }
@@ -79,12 +83,14 @@ typedef struct rbbi_tally {
 /* What calls return. */
 enum {
     RBBI_OK = 0,       /* done */
-    RBBI_DONE = 1,     /* there is no such boundary; the number isn't written */
+    RBBI_DONE = 1,     /* there is no such boundary, and the number isn't written; of a scan: what
+                          comes next depends on what isn't fed */
     RBBI_NULL = 2,     /* a pointer is NULL that must not be */
     RBBI_HANDLE = 3,   /* the handle is empty or of another kind; of a call that opens: it isn't
                           empty */
-    RBBI_UNIT = 4,     /* the unit is none of the three */
-    RBBI_OUTSIDE = 5,  /* the edit reaches past the end of the text */
+    RBBI_UNIT = 4,     /* the unit is none of the three; of a scan: it isn't the text's */
+    RBBI_OUTSIDE = 5,  /* the edit reaches past the end of the text; of a scan: the last piece was
+                          fed before */
     RBBI_INSIDE = 6,   /* the edit begins or ends inside a character */
     RBBI_TOO_LONG = 7, /* a text would have more than 16,777,216 characters; a text, a table or a
                           property file has more than 100,663,296 bytes, a rule file more than
@@ -161,8 +167,10 @@ int rbbi_table_compile(rbbi_table *table, rbbi_files *files, const void *rules, 
    `fault` may be NULL. A damaged file is refused or is a valid table. */
 int rbbi_table_load(rbbi_table *table, const void *bytes, size_t length, rbbi_fault *fault);
 
-/* Loads a built-in table: "grapheme", "word" or "sentence" by UAX #29 of Unicode 18.0, or "line" by
-   the rules of UAX #14 of 17.0 over the data of 18.0. Statuses: of a word, that of its last
+/* Loads a built-in table: "grapheme", "word" or "sentence" by UAX #29 of Unicode 18.0, "line" by the
+   rules of UAX #14 of 17.0 over the data of 18.0, or lines as CSS tailors them: "line-strict", which
+   is "line", "line-normal" and "line-loose", and for Chinese and Japanese "line-cj",
+   "line-normal-cj" and "line-loose-cj". Statuses: of a word, that of its last
    character that has a kind, as marks and connectors have none: 100 a digit, 200 a letter, 300
    kana, 400 an ideograph, 0 any other; of a sentence 0 if a terminator ends it, else 100; of a line
    100 if it ends in a character after which it must be broken, such as LF, else 0, also at the end
@@ -216,6 +224,35 @@ int rbbi_words_utf16(rbbi_table *table, const uint16_t *text, size_t length, uin
                      uint64_t *starts, uint64_t *ends, uint32_t *statuses, size_t room,
                      size_t *count, uint64_t *resume);
 
+/* ---- a scan: a text of any length that nobody edits and that is passed piece by piece, as it comes
+   from a file or a socket. It may be cut anywhere, also inside of a character. Only what lies past the
+   last boundary found is kept ---- */
+
+/* Opens a scan of a text in `unit`, which is RBBI_UTF8 or RBBI_UTF16. If `only_words` isn't 0, it
+   gives only segments that have a letter or a digit of any script. */
+int rbbi_scan_open(rbbi_scan *scan, rbbi_table *table, int unit, int only_words);
+
+/* Feeds the next `length` bytes of a text in UTF-8, and the next units of one in UTF-16. If `is_last`
+   isn't 0, the text ends there. `piece` may be NULL if `length` is 0. RBBI_OUTSIDE: the last piece was
+   fed before. RBBI_UNIT: the scan has the other unit. RBBI_MEMORY: nothing is fed. */
+int rbbi_scan_feed(rbbi_scan *scan, const char *piece, size_t length, int is_last);
+int rbbi_scan_feed_utf16(rbbi_scan *scan, const uint16_t *piece, size_t length, int is_last);
+
+/* Writes the next segments of what was fed, in order: where each begins into `starts`, where it ends
+   into `ends`, and the largest status of its end into `statuses`, each of `room` numbers, and how many
+   were written to `count`. Places have 64 bits and count the units of the whole text. `place` is the
+   last boundary found, or that of a fault. `starts` and `statuses` may be NULL, and if `room` is 0,
+   `ends` too.
+   RBBI_OK: the last segment of the text is written. RBBI_ROOM: there may be more. RBBI_DONE: what is
+   next depends on what isn't fed. A search that reads up to the end of what was fed is made again once
+   twice as much is there past the last boundary, or the last piece. RBBI_NOT_UTF8, RBBI_LONE,
+   RBBI_TOO_LONG and RBBI_MEMORY are as with rbbi_breaks; after RBBI_MEMORY another call tries again.
+   Whatever the pieces and rooms, what is written up to RBBI_OK are the segments of the whole text. */
+int rbbi_scan_next(rbbi_scan *scan, uint64_t *starts, uint64_t *ends, uint32_t *statuses,
+                   size_t room, size_t *count, uint64_t *place);
+
+void rbbi_scan_close(rbbi_scan *scan);
+
 /* ---- sessions ---- */
 
 /* Opens a session over a text in UTF-8 of `length` bytes, with places in `unit`. The cursor is at
@@ -264,8 +301,11 @@ int rbbi_session_replace(rbbi_session *session, uint32_t at, uint32_t remove, co
 /* The same edit, which also writes to `change` what it changed: the least range that has the edit in
    it and outside of which boundaries and their statuses are the old ones. A place before `from` is a
    boundary exactly if it was one, and a place after `new_to` exactly if the place as far after
-   `old_to` was one, with the same statuses. At both ends of the range boundaries may differ. It
-   copies the characters that it removes first. It reads back to two characters at which each search
+   `old_to` was one, with the same statuses. At both ends of the range boundaries may differ. So the
+   range isn't yet what is to be drawn: without the space in "The quick" it is empty, from 3 to 3. Of
+   the new text draw all from the boundary before `from`, or from 0, to the boundary after `new_to`,
+   or to the end: rbbi_session_preceding and rbbi_session_following give them. All segments that
+   changed lie there. It copies the characters that it removes first. It reads back to two characters at which each search
    ends, which by lines and sentences may be where the paragraph begins, and searches the old and the
    new text from there to a boundary after the edit at which they meet again, however far that is. */
 int rbbi_session_replace_changed(rbbi_session *session, uint32_t at, uint32_t remove,

@@ -1,5 +1,6 @@
 pub mod Values
 pub mod Handles
+pub mod Fed
 pub mod Desks
 pub mod Within
 pub mod Found

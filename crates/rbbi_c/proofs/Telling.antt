@@ -103,7 +103,7 @@ module _ (old new : UnitSession) (at removed : ℕ) (w : List ℕ) (part : Remov
   told_is change told least within from new_to old_to =
       let x : List ℕ = old.asked.state.text in let y : List ℕ = new.asked.state.text in
       let unit_is : new.unit ≡ old.unit = ap (λ (s : UnitSetting). s.unit) setting in
-      let table_is : new.asked.table ≡ old.asked.table = ap (λ (s : UnitSetting). s.table) setting in
+      let table_is : new.asked.table ≡ old.asked.table = ap (λ (s : UnitSetting). s.below) setting in
       let out = least.outside in
       let before = offset_before old.unit x y part.first (length part.text) (length w) edited change.from out.begins in
       let behind = offset_behind old.unit x y part.first (length part.text) (length w) edited change.old_to out.ends in

@@ -3,6 +3,7 @@ pub mod Asking
 pub mod Holding
 pub mod Sorts
 pub mod Calls
+pub mod Feeding
 pub mod Filtering
 pub mod Copying
 pub mod Reading

@@ -94,7 +94,8 @@ pub(crate) fn add_through(
     };
     let code = match &mut *held {
         Held::Properties(list) => add_file(list, property, bytes, fault, name),
-        Held::Table(_) | Held::Session(_) | Held::Filtered(_) | Held::Tally(_) => codes::HANDLE,
+        Held::Table(_) | Held::Session(_) | Held::Filtered(_) | Held::Tally(_) | Held::Scan(_) =>
+            codes::HANDLE,
     };
     files.put(alloc, held);
     code

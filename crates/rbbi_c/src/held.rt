@@ -1,6 +1,7 @@
 //! What a handle holds.
 use crate::desk::Desk;
 use crate::filter_desk::FilterDesk;
+use crate::scan_desk::ScanDesk;
 use crate::shared::SharedTable;
 use crate::tally_desk::TallyDesk;
 use rbbi_props::PropTable;
@@ -18,4 +19,6 @@ pub enum Held {
     Filtered(FilterDesk),
     /// A tally.
     Tally(TallyDesk),
+    /// A scan of a text that is fed.
+    Scan(ScanDesk),
 }

@@ -17,6 +17,7 @@ pub(crate) fn lend(held: &mut Held) -> Option<&mut Desk>
 {
     match held {
         Held::Session(desk) => Some(desk),
-        Held::Properties(_) | Held::Table(_) | Held::Filtered(_) | Held::Tally(_) => None,
+        Held::Properties(_) | Held::Table(_) | Held::Filtered(_) | Held::Tally(_) | Held::Scan(_) =>
+            None,
     }
 }

@@ -24,6 +24,18 @@ fn kind_named(name: &[u8]) -> Option<Kind>
         Some(Kind::Sentence)
     } else if name == b"line".as_slice() {
         Some(Kind::Line)
+    } else if name == b"line-strict".as_slice() {
+        Some(Kind::LineStrict)
+    } else if name == b"line-normal".as_slice() {
+        Some(Kind::LineNormal)
+    } else if name == b"line-loose".as_slice() {
+        Some(Kind::LineLoose)
+    } else if name == b"line-cj".as_slice() {
+        Some(Kind::LineCj)
+    } else if name == b"line-normal-cj".as_slice() {
+        Some(Kind::LineNormalCj)
+    } else if name == b"line-loose-cj".as_slice() {
+        Some(Kind::LineLooseCj)
     } else {
         None
     }

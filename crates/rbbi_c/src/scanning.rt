@@ -38,7 +38,7 @@ fn table_of(held: &Held) -> Option<&Table>
 }
 
 /// Writes how far the boundaries were given to where C wants it.
-fn tell(reached: Reached, fault: u32, given: &mut Given) -> u32
+pub(crate) fn tell(reached: Reached, fault: u32, given: &mut Given) -> u32
     ensures code { result ≡ code_of fault reached.stop }
     ensures given { given.new ≡ given_by reached }
 {

@@ -21,7 +21,7 @@ lead_append is_whole table x place mid last (b ∷ these) those first second =
     (first.0, first.1, first.2, lead_append is_whole table x b.at mid last these those first.3 second)
 
 -- the segments of boundaries that lead on are those of the first, and then those of the others
-segments_append : (only_words is_whole : Bool) (table : Table) (x : List ℕ) (place mid last : ℕ) (these those : List Boundary)
+pub segments_append : (only_words is_whole : Bool) (table : Table) (x : List ℕ) (place mid last : ℕ) (these those : List Boundary)
     → Lead is_whole table x place these mid
     → segments_of only_words x place (these ++ those) ≡ segments_of only_words x place these ++ segments_of only_words x mid those
 segments_append only_words is_whole table x place mid last [] those lead = ap (λ p. segments_of only_words x p those) lead

@@ -1,12 +1,11 @@
 -- Boundaries of the rest of a text are those of the text, moved by where the rest begins.
-use Rattle.std.proofs.Common.{◌≡◌, ℕ, ◌+◌, ◌<◌, ◌≤◌, Bool, false, List, [], ◌∷◌, ◌++◌, length, take, drop, get_or, refl, sym, ap, ◌∙◌, subst}
+use Rattle.std.proofs.Common.{◌≡◌, ℕ, ◌+◌, ◌<◌, ◌≤◌, Bool, true, false, cond, List, [], ◌∷◌, ◌++◌, length, take, drop, get_or, refl, sym, ap, ◌∙◌, subst}
 use Rattle.std.proofs.Common.{inl, inr, ⊎_elim, arith, append_assoc, append-nil, length-append, length-drop, length-take, take-append-drop}
-use Rattle.std.specs.Prelude.{IsTrue, map}
-use Rattle.std.proofs.lemmas.List.{drop-drop, drop_at, ext_get_or, get_or-take}
+use Rattle.std.specs.Prelude.{IsTrue, map, not, ◌||◌, slice_range}
+use Rattle.std.proofs.lemmas.List.{map-append, drop-drop, drop_at, ext_get_or, get_or-take}
 use Rattle.std.proofs.lemmas.List.Concat.{flat_map-append}
 use Rattle.rbbi_model.specs.declared.unit.Unit.{Unit as TextUnit}
 use Rattle.rbbi_model.specs.Boundaries.{Boundary}
-use Rattle.rbbi_model.specs.Places.{largest}
 use Rattle.rbbi_model.specs.Tables.{Table, statuses_of}
 use Rattle.rbbi_model.specs.Units.{offset_of}
 use Rattle.rbbi_model.specs.Words.{IsCharacter}
@@ -15,13 +14,12 @@ use Rattle.rbbi_model.specs.ReadAlike.{FindsAlike}
 use Rattle.rbbi_model.proofs.Found.{found_lies}
 use Rattle.rbbi_model.proofs.Lists.{all_drop}
 use Rattle.rbbi_scan.specs.Columns.{IsFilled}
-use Rattle.rbbi_scan.specs.Giving.{ends_of, greatest_of}
 use Rattle.rbbi_scan.specs.Leading.{Lead}
-use Rattle.rbbi_scan.specs.Segments.{segments_of}
+use Rattle.rbbi_scan.specs.Segments.{Segment, is_word, segment_to, segments_of}
 use Rattle.rbbi_scan.specs.Spelled.{spelling_of, spelled, BeginWithNone, IsTextIn}
 use Rattle.rbbi_scan.specs.Windows.{IsWindow}
 use Rattle.rbbi_scan.proofs.Spelling.{length_spelled}
-use Rattle.rbbi_scan.proofs.Windows.{alike, offset_in}
+use Rattle.rbbi_scan.proofs.Windows.{slice_is, alike, offset_in}
 
 module _ (table : Table) (all : List ℕ) (base : ℕ) (within : base ≤ length all) where
   -- the rest of the text
@@ -57,23 +55,35 @@ module _ (table : Table) (all : List ℕ) (base : ℕ) (within : base ≤ length
         lead_moved is_whole also b.at last given how lead.3,
       )
 
-  -- where they end lies so far on
-  pub ends_moved : (unit : TextUnit) (first : ℕ) (is_whole : Bool) (place last : ℕ) (given : List Boundary) → first ≡ offset_of unit all base →
-      Lead is_whole table (drop base all) place given last →
-      ends_of unit first (drop base all) (segments_of false (drop base all) place given) ≡ map (λ b. offset_of unit all b.at) (map moved given)
-  ends_moved unit first is_whole place last [] first_is lead = refl
-  ends_moved unit first is_whole place last (b ∷ given) first_is lead =
-      let low : b.at ≤ length (drop base all) =
-      subst (λ c. c.at ≤ length (drop base all)) (sym lead.2) (found_lies table (drop base all) place lead.0).1 in
-      let here : first + offset_of unit (drop base all) b.at ≡ offset_of unit all (base + b.at) =
-      omega (arith, first_is, offset_in base (drop base all) [] all is unit b.at low) in
-      ap (λ n. n ∷ ends_of unit first (drop base all) (segments_of false (drop base all) b.at given)) here
-      ∙ ap (λ l. offset_of unit all (base + b.at) ∷ l) (ends_moved unit first is_whole b.at last given first_is lead.3)
+  -- the segment moved on
+  abbrev pub shifted : Segment → Segment
+  shifted s = record { start = base + s.start; end = base + s.end; statuses = s.statuses }
 
-  pub greatest_moved : (place : ℕ) (given : List Boundary) →
-      greatest_of (segments_of false (drop base all) place given) ≡ map (λ (b : Boundary). largest b.statuses) (map moved given)
-  greatest_moved place [] = refl
-  greatest_moved place (b ∷ given) = ap (λ l. largest b.statuses ∷ l) (greatest_moved b.at given)
+  -- what is told of a segment, if it is asked for, is told of the one moved on
+  told : (f g : Segment → ℕ) (s : Segment) (asked : Bool) → f (shifted s) ≡ g s → map f (cond asked (shifted s ∷ []) []) ≡ map g (cond asked (s ∷ []) [])
+  told f g s true how = ap (λ n. n ∷ []) how
+  told f g s false how = refl
+
+  -- what is told of segments is told of those moved on
+  pub column_moved : (f g : Segment → ℕ) (only_words is_whole : Bool) (place last : ℕ) (given : List Boundary)
+      → ((s : Segment) → s.start ≤ length (drop base all) → s.end ≤ length (drop base all) → f (shifted s) ≡ g s)
+      → Lead is_whole table (drop base all) place given last
+      → map f (segments_of only_words all (base + place) (map moved given)) ≡ map g (segments_of only_words (drop base all) place given)
+  column_moved f g only_words is_whole place last [] how lead = refl
+  column_moved f g only_words is_whole place last (b ∷ given) how lead =
+      let lies = found_lies table (drop base all) place lead.0 in
+      let order : place < b.at = subst (λ c. place < c.at) (sym lead.2) lies.0 in
+      let low : b.at ≤ length (drop base all) = subst (λ c. c.at ≤ length (drop base all)) (sym lead.2) lies.1 in
+      let s : Segment = record { start = place; end = b.at; statuses = b.statuses } in
+      let characters : slice_range (drop base all) place b.at ≡ slice_range all (base + place) (base + b.at) =
+      slice_is base (drop base all) [] all is place b.at (omega (arith, order)) low in
+      let first : map f (segment_to only_words all (base + place) (moved b)) ≡ map g (segment_to only_words (drop base all) place b) =
+      ap (λ l. map f (cond (not only_words || is_word l) (shifted s ∷ []) [])) (sym characters)
+      ∙ told f g s (not only_words || is_word (slice_range (drop base all) place b.at)) (how s (omega (arith, lead.0)) low) in
+      map-append f (segment_to only_words all (base + place) (moved b)) (segments_of only_words all (base + b.at) (map moved given))
+      ∙ ap (λ l. l ++ map f (segments_of only_words all (base + b.at) (map moved given))) first
+      ∙ ap (λ l. map g (segment_to only_words (drop base all) place b) ++ l) (column_moved f g only_words is_whole b.at last given how lead.3)
+      ∙ sym (map-append g (segment_to only_words (drop base all) place b) (segments_of only_words (drop base all) b.at given))
 
   pub offset_moved : (unit : TextUnit) (i : ℕ) → i ≤ length (drop base all) →
       offset_of unit all (base + i) ≡ offset_of unit all base + offset_of unit (drop base all) i

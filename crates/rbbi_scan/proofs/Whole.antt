@@ -170,6 +170,19 @@ module _ (table : Table) (x : List ℕ) where
       ∙ leads is_whole place last given lead
       ∙ ap (λ bs. given ++ bs) (sym (past_is last (length x) start (omega arith) (last_is is_whole place last given here lead)))
 
+  none_follow : (place : ℕ) → length x ≤ place → following place ≡ []
+  unfolding following
+  none_follow place ended = no_more (length x) (record { at = place; statuses = [] }) ended
+
+  -- boundaries that lead from the text's start to its end are all
+  pub all_are : (is_whole : Bool) (last : ℕ) (given : List Boundary) → Lead is_whole table x 0 given last → last ≡ length x →
+      past 0 (table_boundaries table x) ≡ given
+  all_are is_whole last given lead ended =
+      past_is 0 (length x) start (omega arith) (inl refl)
+      ∙ leads is_whole 0 last given lead
+      ∙ ap (λ bs. given ++ bs) (none_follow last (omega (arith, ended)))
+      ∙ append-nil given
+
 -- what a scan of units that are all gives of their text
 pub breaks_at : (unit : TextUnit) (table : Table) (asked : Asked) (units : List ℕ) (start : Reached) (before after : Columns) (reached : Reached) →
     asked.origin ≡ 0 → ScansOn unit table asked true most_characters units start before after reached → start.count ≡ 0 →

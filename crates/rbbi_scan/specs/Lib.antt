@@ -10,4 +10,5 @@ pub mod Scanning
 pub mod Segments
 pub mod Spelled
 pub mod Stops
+pub mod Units
 pub mod Windows

@@ -65,8 +65,9 @@ pub fn breaks_utf8<L: Ledger>(
     )
 }
 
-/// The same of a text in UTF-16, with places in its units. A surrogate that is alone spells
-/// nothing, and is reported as `breaks_utf8` does bytes that aren't UTF-8.
+/// Gives the boundaries of a text in UTF-16 that follow a place, in its units from 0, as many as
+/// there is room for, each with its greatest status. A surrogate that is alone spells nothing, and is
+/// reported once a search reads it. The rest is as in `breaks_utf8`.
 pub fn breaks_utf16<L: Ledger>(
     alloc: Global,
     table: &Table,
@@ -133,7 +134,8 @@ pub fn words_utf8<L: Ledger>(
     )
 }
 
-/// The same of a text in UTF-16, as `breaks_utf16`.
+/// Gives the segments of a text in UTF-16 that are words, in its units from 0. The rest is as in
+/// `words_utf8` and `breaks_utf16`.
 pub fn words_utf16<L: Ledger>(
     alloc: Global,
     table: &Table,

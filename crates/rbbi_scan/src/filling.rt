@@ -31,7 +31,7 @@ fn write_at(room: &mut [u32], i: usize, number: u32)
     }
 }
 
-/// The same for a place in a text.
+/// Writes where a segment starts or ends at a place of a list, if there is room for it.
 #[inline(always)]
 fn write_place(room: &mut [u64], i: usize, place: u64)
     ensures { room.new ≡ slice_set room.old i place }

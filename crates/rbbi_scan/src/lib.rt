@@ -5,16 +5,19 @@
 #![tactic(auto)]
 
 mod breaks;
+mod feeding;
 mod filling;
 mod greatest;
 mod reached;
 mod scanner;
 mod scanning;
 mod source;
+mod units;
 mod utf16;
 mod utf8;
 mod window;
 
 pub use breaks::{breaks_utf8, breaks_utf16, words_utf8, words_utf16};
+pub use feeding::NotFed;
 pub use reached::{Reached, Stop};
 pub use scanner::Scanner;

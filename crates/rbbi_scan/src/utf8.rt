@@ -11,8 +11,9 @@ use crate::source::{Decoded, Source};
 /// So many bytes are decoded at once where all are ASCII.
 const BLOCK: usize = 64;
 
-/// So many bytes are checked and decoded where some aren't, before it is asked again.
-const CHECKED: usize = 256;
+/// So many bytes are checked and decoded one by one where some aren't, before it is asked again. One
+/// character of another script among many of ASCII costs no more than a block.
+const CHECKED: usize = 64;
 
 /// The bytes of a text.
 #[derive(Drop)]

@@ -7,4 +7,4 @@ pub invariant_of-self : goal.invariant_of-self
 invariant_of-self g c =
     let kept = edited-keeps c.self.inside.session c.args.at c.args.remove (chars c.args.insert.now) c.replace.result c.replace.new.self c.args.steps.now
     c.replace.new.steps c.replace.ensures in
-    (ap (λ (s : UnitSetting). s.table) kept ∙ c.self.invariant.0, c.self.invariant.1)
+    (ap (λ (s : UnitSetting). s.below) kept ∙ c.self.invariant.0, c.self.invariant.1)

@@ -8,4 +8,4 @@ invariant_of-self g c =
     let is = c.replace_telling.ensures.edits in
     let kept = edited-keeps c.self.inside.session c.args.at c.args.remove (chars c.args.insert.now) c.replace_telling.result c.replace_telling.new.session
     is.before is.after is.edits in
-    (ap (λ (s : UnitSetting). s.table) kept ∙ c.self.invariant.0, c.replace_telling.ensures.fit ∙ c.self.invariant.1)
+    (ap (λ (s : UnitSetting). s.below) kept ∙ c.self.invariant.0, c.replace_telling.ensures.fit ∙ c.self.invariant.1)
