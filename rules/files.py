@@ -5,6 +5,7 @@ import re
 HERE = os.path.dirname(os.path.abspath(__file__))
 DATA = os.path.join(os.path.dirname(HERE), 'unicode')
 NAMES = ['grapheme', 'word', 'sentence', 'line']
+TAILORED = ['line-normal', 'line-loose', 'line-cj', 'line-normal-cj', 'line-loose-cj']
 
 
 def find(folder, name):

@@ -426,7 +426,50 @@ def sentence(folder, is_15=False):
     return Model('sentence', SENTENCE, [breaks], classes_of, sentence_statuses)
 
 
-def line(folder, is_15=False):
+ITERATION = {0x3005, 0x303B, 0x309D, 0x309E, 0x30FD, 0x30FE}
+KANA_HYPHENS = {0x301C, 0x30A0}
+CENTERED = {0x30FB, 0xFF1A, 0xFF1B, 0xFF65, 0x203C, 0x2047, 0x2048, 0x2049, 0xFF01, 0xFF1F}
+HYPHENS = {0x2010, 0x2013}
+QUOTES = {0x201C: 'OP', 0x201D: 'CL'}
+
+# What CSS Text 3, section 5.3, lets begin a line by each tailoring, and prefixes let end one; ICU adds the
+# quotes, and that a wide prefix may be joined to a number before it, a wide suffix to what follows.
+FREE = {'loose': ITERATION, 'normal-cj': KANA_HYPHENS, 'loose-cj': ITERATION | KANA_HYPHENS | CENTERED}
+
+TAILORED_RULES = {
+    '× IN': '[^ IN] × IN',
+    '× (BA | HY | NS)': '× ([BA - Hyphen] | HY | NS)\nLB21   [^ ID] × Hyphen',
+    '× (BA | HH | HY | NS)': '× ([BA - Hyphen] | [HH - Hyphen] | HY | NS)\nLB21   [^ ID] × Hyphen',
+    '(PR | PO) × ': '(PR | PO | Suffix) × ',
+    '(PO | PR) × OP': '(PO | PR | Suffix) × OP',
+    '(PO | PR | HY | IS) × NU': '(PO | PR | Suffix | HY | IS) × NU',
+    '× (PR | PO)': '× (PR | PO | Suffix)',
+    '× (PO | PR)': '× (PO | PR | Prefix)',
+}
+
+
+def tailored_rules(text, tailoring):
+    """The lines of the annex with those of a tailoring in the place of some."""
+    for old, new in TAILORED_RULES.items():
+        if tailoring == 'loose-cj' or tailoring == 'loose' and old == '× IN':
+            text = text.replace(old + '\n', new + '\n') if old.startswith('×') else text.replace(old, new)
+    return text
+
+
+def tailored_class(tailoring, code, value, name, width):
+    """The value and the class of a character by a tailoring."""
+    if value == 'CJ' and tailoring not in ('', 'cj'):
+        return value, 'ID'
+    if code in FREE.get(tailoring, ()):
+        return 'Free', 'Free'
+    if code in QUOTES and tailoring.endswith('cj'):
+        return 'Quote', QUOTES[code]
+    if tailoring == 'loose-cj' and name in ('PR', 'PO') and width in ('A', 'F', 'W'):
+        return (('Prefix',) if name == 'PR' else ('Suffix',)) * 2
+    return value, name
+
+
+def line(folder, is_15=False, tailoring=''):
     breaks = Property(folder, 'LineBreak.txt', 'XX')
     widths = Property(folder, 'EastAsianWidth.txt')
     general = Property(folder, 'DerivedGeneralCategory.txt')
@@ -441,6 +484,7 @@ def line(folder, is_15=False):
             name = 'CM' if category in ('Mn', 'Mc') else 'AL'
         elif value == 'CJ':
             name = 'NS'
+        value, name = tailored_class(tailoring, code, value, name, widths.of(code))
         kinds = (value, name)
         if widths.of(code) in ('F', 'W', 'H'):
             kinds += ('EastAsian',)
@@ -448,11 +492,24 @@ def line(folder, is_15=False):
             kinds += (category,)
         if code == 0x25CC:
             kinds = ('Circle', name, 'Circle')
+        if tailoring == 'loose-cj' and code in HYPHENS:
+            kinds = ('Hyphen', name, 'Hyphen')
         if emoji.of(code) and category == 'Cn':
             kinds += ('ExtPict', 'Cn')
         return kinds
-    return Model('line', LINE_15 if is_15 else LINE, [breaks, widths, general, emoji], classes_of,
-                 line_statuses, {0x25CC, 0x25CD})
+    special = FREE.get(tailoring, set()) | (HYPHENS | set(QUOTES) if tailoring else set()) | {0x25CC}
+    rules = tailored_rules(LINE_15 if is_15 else LINE, tailoring)
+    return Model(f'line-{tailoring}' if tailoring else 'line', rules, [breaks, widths, general, emoji],
+                 classes_of, line_statuses, special | {code + 1 for code in special})
 
 
-MODELS = [grapheme, word, sentence, line]
+def lines_by(tailoring):
+    """The model of lines by a tailoring."""
+    def make(folder, is_15=False):
+        return line(folder, is_15, tailoring)
+    make.__name__ = f'line-{tailoring}'
+    return make
+
+
+TAILORINGS = ['normal', 'loose', 'cj', 'normal-cj', 'loose-cj']
+MODELS = [grapheme, word, sentence, line] + [lines_by(tailoring) for tailoring in TAILORINGS]

@@ -9,3 +9,4 @@ pub mod LineEntries
 pub mod LineStarts
 pub mod LineRows
 pub mod LineTable
+pub mod TailoredLines

@@ -1,1 +1,1 @@
-pub mod Annexes
+pub mod BuiltIn

@@ -4,8 +4,14 @@
 
 mod grapheme;
 mod line;
+mod line_cj;
+mod line_loose;
+mod line_loose_cj;
+mod line_normal;
+mod line_normal_cj;
 mod loading;
 mod sentence;
+mod tailored;
 mod word;
 
 ghost use Rattle.std.specs.Prelude.{◌≤◌, length, true};
@@ -13,10 +19,16 @@ ghost use Rattle.unicode_segmentation.specs.Grapheme.{is_grapheme_break};
 ghost use Rattle.unicode_segmentation.specs.Sentence.{is_sentence_break};
 ghost use Rattle.unicode_segmentation.specs.Word.{is_word_break};
 ghost use Rattle.rbbi_text.specs.Bytes.{most_bytes};
+ghost use Rattle.rbbi_model.specs.TableFile.{IsSpelling};
+ghost use Rattle.rbbi_model.specs.Tables.{Table};
+ghost use Rattle.rbbi_model.specs.ValidTables.{IsValidTable};
 ghost use Rattle.rbbi_annexes.specs.Breaks.{SpellTable, SpellBreaksBy};
 ghost use Rattle.rbbi_annexes.specs.LineBoundaries.{is_line_break, line_status};
 ghost use Rattle.rbbi_annexes.specs.Statuses.{grapheme_status, word_status, sentence_status};
 ghost use Rattle.rbbi_annexes.specs.Statuses.{SpellBoundaries};
+ghost use Rattle.rbbi_segment_tables.specs.BuiltIn.{IsBuiltIn};
+ghost use Rattle.rbbi_segment_tables.specs.declared.loading.Kind.TheVariants.{Grapheme, Word};
+ghost use Rattle.rbbi_segment_tables.specs.declared.loading.Kind.TheVariants.{Sentence, Line};
 
 pub use loading::{Kind, built_in};
 
@@ -27,6 +39,8 @@ pub use loading::{Kind, built_in};
 pub fn graphemes() -> &'static [u8]
     ensures places { SpellBreaksBy result.now (is_grapheme_break true) }
     ensures statuses { SpellBoundaries result.now (is_grapheme_break true) grapheme_status }
+    ensures built { (table : Table) → IsValidTable table → IsSpelling result.now table
+        → IsBuiltIn Grapheme table }
     ensures valid { SpellTable result.now }
     ensures short { length result.now ≤ most_bytes }
 {
@@ -41,6 +55,8 @@ pub fn graphemes() -> &'static [u8]
 pub fn words() -> &'static [u8]
     ensures places { SpellBreaksBy result.now is_word_break }
     ensures statuses { SpellBoundaries result.now is_word_break word_status }
+    ensures built { (table : Table) → IsValidTable table → IsSpelling result.now table
+        → IsBuiltIn Word table }
     ensures valid { SpellTable result.now }
     ensures short { length result.now ≤ most_bytes }
 {
@@ -55,6 +71,8 @@ pub fn words() -> &'static [u8]
 pub fn sentences() -> &'static [u8]
     ensures places { SpellBreaksBy result.now is_sentence_break }
     ensures statuses { SpellBoundaries result.now is_sentence_break sentence_status }
+    ensures built { (table : Table) → IsValidTable table → IsSpelling result.now table
+        → IsBuiltIn Sentence table }
     ensures valid { SpellTable result.now }
     ensures short { length result.now ≤ most_bytes }
 {
@@ -69,6 +87,8 @@ pub fn sentences() -> &'static [u8]
 pub fn lines() -> &'static [u8]
     ensures places { SpellBreaksBy result.now is_line_break }
     ensures statuses { SpellBoundaries result.now is_line_break line_status }
+    ensures built { (table : Table) → IsValidTable table → IsSpelling result.now table
+        → IsBuiltIn Line table }
     ensures valid { SpellTable result.now }
     ensures short { length result.now ≤ most_bytes }
 {

@@ -12,3 +12,6 @@ returns-clause-valid c = graphemes_spelled
 
 pub returns-clause-short : goal.returns-clause-short
 returns-clause-short c = graphemes_short
+
+pub returns-clause-built : goal.returns-clause-built
+returns-clause-built c = λ table valid is. (is, grapheme_boundaries table valid is)

@@ -12,3 +12,6 @@ returns-clause-valid c = lines_spelled
 
 pub returns-clause-short : goal.returns-clause-short
 returns-clause-short c = lines_short
+
+pub returns-clause-built : goal.returns-clause-built
+returns-clause-built c = λ table valid is. (is, line_boundaries table valid is)

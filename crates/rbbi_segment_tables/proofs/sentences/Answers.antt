@@ -12,3 +12,6 @@ returns-clause-valid c = sentences_spelled
 
 pub returns-clause-short : goal.returns-clause-short
 returns-clause-short c = sentences_short
+
+pub returns-clause-built : goal.returns-clause-built
+returns-clause-built c = λ table valid is. (is, sentence_boundaries table valid is)

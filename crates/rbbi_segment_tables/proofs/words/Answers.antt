@@ -12,3 +12,6 @@ returns-clause-valid c = words_spelled
 
 pub returns-clause-short : goal.returns-clause-short
 returns-clause-short c = words_short
+
+pub returns-clause-built : goal.returns-clause-built
+returns-clause-built c = λ table valid is. (is, word_boundaries table valid is)
