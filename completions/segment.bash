@@ -10,7 +10,8 @@ _segment() {
         before=${COMP_WORDS[COMP_CWORD - 2]}
     fi
     case $before in
-    -b | --by) COMPREPLY=($(compgen -W 'grapheme word sentence line' -- "$word")) ;;
+    -b | --by) COMPREPLY=($(compgen -W 'grapheme word sentence line
+        line-strict line-normal line-loose line-cj line-normal-cj line-loose-cj' -- "$word")) ;;
     -f | --format) COMPREPLY=($(compgen -W 'text json plain marked lines' -- "$word")) ;;
     -u | --units) COMPREPLY=($(compgen -W 'chars utf8 utf16' -- "$word")) ;;
     --color) COMPREPLY=($(compgen -W 'auto always never' -- "$word")) ;;

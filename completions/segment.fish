@@ -1,5 +1,5 @@
 # Completion of segment for fish: put this file into ~/.config/fish/completions.
-complete -c segment -s b -l by -x -a 'grapheme word sentence line' -d 'What the segments are, by the built-in tables'
+complete -c segment -s b -l by -x -a 'grapheme word sentence line line-strict line-normal line-loose line-cj line-normal-cj line-loose-cj' -d 'What the segments are, by the built-in tables'
 complete -c segment -l rules -r -F -d 'Break by this rule file'
 complete -c segment -l table -r -F -d 'Break by this table file'
 complete -c segment -l check -r -F -d 'Report the first fault of this rule file'

@@ -5,7 +5,7 @@ use rbbi_tree::Quant;
 use std::alloc::{AllocError, Global};
 
 /// Whether a tree spells the empty word. One call a level, at most 257.
-fn spells_empty(tree: &Tree) -> bool {
+pub(crate) fn spells_empty(tree: &Tree) -> bool {
     match tree {
         Tree::Leaf(_) => false,
         Tree::Seq(parts) => {

@@ -5,12 +5,14 @@ ghost use Rattle.std.specs.Str.{chars};
 ghost use Rattle.rbbi_text.specs.Bytes.{most_bytes};
 ghost use Rattle.rbbi_lint.specs.Effects.{ChangesNothing};
 
+use crate::cuts::late_cuts;
 use crate::effect::{Effect, effect_of};
 use crate::empty::empty_rules;
 use crate::finder::pieces_of;
+use crate::habits::{Found, habits_of};
 use crate::piece::Piece;
 use crate::statements::{Statement, statements_of};
-use crate::together::{Pair, ends_together};
+use crate::together::{Endings, Hidden, Pair, find_endings};
 use rbbi_lex::{Tokens, lex};
 use rbbi_props::PropTable;
 use rbbi_resolve::Rules;
@@ -28,6 +30,12 @@ pub struct Findings {
     pub empty: Vec<u32>,
     /// The rules that always end together and have different statuses.
     pub together: Vec<Pair>,
+    /// The other rules whose status is never shown.
+    pub hidden: Vec<Hidden>,
+    /// The look-ahead rules that may cut later than meant.
+    pub late: Vec<u32>,
+    /// What means something else in other languages.
+    pub habits: Vec<Found>,
 }
 
 /// The tokens of a text, and none if it has a fault in them.
@@ -133,10 +141,22 @@ pub fn lint(
     let statements = statements_of(alloc, &tokens, rules)?;
     let pieces = pieces_of(alloc, &tokens, statements.as_slice())?;
     let idle = idle_of(alloc, text, table, pieces.as_slice(), props, ignored)?;
+    let habits = habits_of(alloc, text, &tokens)?;
+    let Endings { together, hidden } = find_endings(
+        alloc,
+        text,
+        statements.as_slice(),
+        rules,
+        props,
+        ignored,
+    )?;
     Ok(Findings {
         idle,
         unused: unused_of(alloc, statements.as_slice())?,
         empty: empty_rules(alloc, rules)?,
-        together: ends_together(alloc, text, statements.as_slice(), rules, props, ignored)?,
+        together,
+        hidden,
+        late: late_cuts(alloc, rules)?,
+        habits,
     })
 }

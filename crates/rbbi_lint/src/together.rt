@@ -1,4 +1,4 @@
-//! Rules that always end together.
+//! Rules that always end together, and statuses that are never shown.
 ghost use Rattle.std.specs.Prelude.{◌≤◌, length};
 ghost use Rattle.rbbi_text.specs.Bytes.{most_bytes};
 
@@ -20,6 +20,42 @@ pub struct Pair {
     pub later: u32,
     pub earlier_status: u32,
     pub later_status: u32,
+}
+
+/// A rule whose status is never shown: wherever it ends, a rule with a greater status ends too, as
+/// that at `other`. Places are in characters from 0.
+#[derive(Clone, Copy, PartialEq, Eq)]
+pub struct Hidden {
+    pub place: u32,
+    pub status: u32,
+    pub other: u32,
+    pub other_status: u32,
+}
+
+/// What the status lists say of rules, if each rule has a status of its own.
+#[derive(Drop)]
+pub(crate) struct Endings {
+    /// The rules that always end together and differ in their statuses.
+    pub(crate) together: Vec<Pair>,
+    /// The other rules whose status is never shown.
+    pub(crate) hidden: Vec<Hidden>,
+}
+
+impl Endings {
+    /// Those of which nothing is known.
+    fn none(alloc: Global) -> Endings {
+        Endings {
+            together: Vec::new(alloc),
+            hidden: Vec::new(alloc),
+        }
+    }
+}
+
+/// A rule's place, with its status.
+#[derive(Clone, Copy)]
+struct Marked {
+    place: u32,
+    status: u32,
 }
 
 /// The text with a status of its own for each active rule: its number, from 1.
@@ -89,26 +125,123 @@ fn pairs_of(alloc: Global, rules: &Rules, table: &Table) -> Result<Vec<Pair>, Al
     Ok(pairs)
 }
 
+/// The rule of the greatest status among those whose numbers a list has.
+fn greatest_in(rules: &Rules, list: &[u32]) -> Option<Marked> {
+    let mut greatest: Option<Marked> = None;
+    for number in list {
+        let Some(i) = number.checked_sub(1) else {
+            continue;
+        };
+        if i as usize >= rules.len() {
+            continue;
+        }
+        let rule = rules.get(i as usize);
+        let Some(status) = rule.tag else {
+            continue;
+        };
+        if greatest.is_none_or(|other| other.status < status) {
+            let place = rule.place;
+            greatest = Some(Marked { place, status });
+        }
+    }
+    greatest
+}
+
+/// The rules of the greatest status of each list of a table, in which the status of each rule is
+/// its number.
+fn greatest_of(
+    alloc: Global,
+    rules: &Rules,
+    table: &Table,
+) -> Result<Vec<Option<Marked>>, AllocError> {
+    let mut all = Vec::new(alloc);
+    for i in 0..table.lists() {
+        all.push(greatest_in(rules, table.status_list(i)))?;
+    }
+    Ok(all)
+}
+
+/// The rule by whose greater status that of a rule is hidden in each of these lists. None if it is
+/// the greatest of one, or there are no lists.
+fn hidden_by(greatest: &[Option<Marked>], lists: &[u16], status: u32) -> Option<Marked> {
+    let mut first = None;
+    for list in lists {
+        match greatest.get(*list as usize).copied().flatten() {
+            Some(other) if status < other.status => first = first.or(Some(other)),
+            _ => return None,
+        }
+    }
+    first
+}
+
+/// Whether a place is that of a rule of one of the pairs.
+fn is_in_pairs(pairs: &[Pair], place: u32) -> bool {
+    pairs
+        .iter()
+        .any(|pair| pair.earlier == place || pair.later == place)
+}
+
+/// The rules that are in no pair and whose status is never shown, by a table in which the status of
+/// each rule is its number.
+fn hidden_of(
+    alloc: Global,
+    rules: &Rules,
+    table: &Table,
+    pairs: &[Pair],
+) -> Result<Vec<Hidden>, AllocError> {
+    let greatest = greatest_of(alloc, rules, table)?;
+    let mut hidden = Vec::new(alloc);
+    let mut number = 0u32;
+    for i in 0..rules.len() {
+        let rule = rules.get(i);
+        number = number.saturating_add(1);
+        let Some(status) = rule.tag else {
+            continue;
+        };
+        let place = rule.place;
+        if is_in_pairs(pairs, place) {
+            continue;
+        }
+        let lists = lists_with(alloc, table, number)?;
+        if let Some(other) = hidden_by(greatest.as_slice(), lists.as_slice(), status) {
+            hidden.push(Hidden {
+                place,
+                status,
+                other: other.place,
+                other_status: other.status,
+            })?;
+        }
+    }
+    Ok(hidden)
+}
+
+/// What the lists of a table say, in which the status of each rule is its number.
+fn endings_of(alloc: Global, rules: &Rules, table: &Table) -> Result<Endings, AllocError> {
+    let together = pairs_of(alloc, rules, table)?;
+    let hidden = hidden_of(alloc, rules, table, together.as_slice())?;
+    Ok(Endings { together, hidden })
+}
+
 /// The pairs of active rules with statuses that always end together and differ in these, each rule
-/// with the first one of those that end where it does. A rule without a status adds none to those
-/// of others.
+/// with the first one of those that end where it does, and the other rules whose status is never
+/// shown. A rule without a status adds none to those of others.
 ///
 /// The rules are compiled with a status of its own for each, so the status lists of the rows tell
-/// which of them end. If that table passes a limit, there are no pairs.
-pub(crate) fn ends_together(
+/// which of them end. If that table passes a limit, nothing is found.
+pub(crate) fn find_endings(
     alloc: Global,
     text: &str,
     statements: &[Statement<'_>],
     rules: &Rules,
     props: &PropTable,
     ignored: bool,
-) -> Result<Vec<Pair>, AllocError> {
+) -> Result<Endings, AllocError> {
     let numbered = numbered(alloc, text, statements)?;
     if numbered.len() > MOST_BYTES {
-        return Ok(Vec::new(alloc));
+        return Ok(Endings::none(alloc));
     }
     match compile(alloc, numbered.as_str(), props, ignored) {
-        Ok(table) => pairs_of(alloc, rules, &table),
-        Err(_) => Ok(Vec::new(alloc)),
+        Ok(table) => endings_of(alloc, rules, &table),
+        Err(_) => Ok(Endings::none(alloc)),
     }
 }

@@ -81,7 +81,7 @@ more_properties contents told input between left given i d old new same inside s
 -- the table that is asked for gives the boundaries that are asked for
 pub gives_breaks : (contents : Option (List ℕ → List ℕ)) (input : Option (List ℕ)) (request : Request) (basis : Basis) (table : Table)
     (left : Option (List ℕ)) → IsTableOf contents input request basis table left → GivesBreaks table (breaks_of basis table)
-gives_breaks contents input request (BuiltIn kind) table left is = is.0
+gives_breaks contents input request (BuiltIn kind) table left is = is.0.1
 gives_breaks contents input request (Rules name) table left is = λ x text. refl
 gives_breaks contents input request (OfFile name) table left is = λ x text. refl
 

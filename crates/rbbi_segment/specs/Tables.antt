@@ -10,7 +10,7 @@ use Rattle.rbbi_props.specs.Rows.{File}
 use Rattle.rbbi_props.specs.Files.{named_file}
 use Rattle.rbbi_compile.specs.Rules.{text_of}
 use Rattle.rbbi_builtin.specs.Compiling.{CompilesOver}
-use Rattle.rbbi_segment_tables.specs.Annexes.{annex_boundaries, GivesAnnex}
+use Rattle.rbbi_segment_tables.specs.BuiltIn.{boundaries_of, IsBuiltIn}
 use Rattle.rbbi_segment.specs.declared.options.Basis.{Basis}
 use Rattle.rbbi_segment.specs.declared.options.Basis.TheVariants.{BuiltIn, Rules, Table as OfFile}
 use Rattle.rbbi_segment.specs.declared.options.Property.{Property}
@@ -48,15 +48,15 @@ IsSpelled bytes table = IsValidTable table × IsSpelling bytes table
 abbrev pub IsFileTable : Option (List ℕ → List ℕ) → Option (List ℕ) → List ℕ → Table → Option (List ℕ) → Type 0
 IsFileTable contents input name table left = (bytes : List ℕ) × IsRead contents input name bytes left × IsSpelled bytes table
 
--- The table is the one that is asked for: one that gives the boundaries of an annex, that of a rule file, or that of a table file.
+-- The table is the one that is asked for: the built-in one of a kind, that of a rule file, or that of a table file.
 abbrev pub IsTableOf : Option (List ℕ → List ℕ) → Option (List ℕ) → Request → Basis → Table → Option (List ℕ) → Type 0
-IsTableOf contents input request (BuiltIn kind) table left = GivesAnnex kind table × (left ≡ input)
+IsTableOf contents input request (BuiltIn kind) table left = IsBuiltIn kind table × (left ≡ input)
 IsTableOf contents input request (Rules name) table left = IsCompiledOver contents input request name.now table left
 IsTableOf contents input request (OfFile name) table left = IsFileTable contents input name.now table left
 
--- the boundaries of a text: by the annex for a built-in kind, otherwise by the table
+-- the boundaries of a text: those of a built-in kind, which an annex gives if the kind has one, otherwise those by the table
 abbrev pub breaks_of : Basis → Table → List ℕ → List Boundary
-breaks_of (BuiltIn kind) table = annex_boundaries kind
+breaks_of (BuiltIn kind) table = boundaries_of kind table
 breaks_of (Rules name) table = table_boundaries table
 breaks_of (OfFile name) table = table_boundaries table
 

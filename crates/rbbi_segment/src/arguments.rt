@@ -9,10 +9,10 @@ use crate::options::{Asked, Basis, Filtering, Format, Layout, Mark, Property, Re
 use clap::error::ErrorKind;
 use clap::{Arg, ArgAction, ArgMatches, Command, Error};
 use rbbi_segment_tables::Kind;
-use rbbi_text::{Unit, decimal};
+use rbbi_text::{Unit, append, decimal};
 use std::alloc::{AllocError, AllocFailed, Global};
 
-const VERSION: &str = "1.0, with tables of Unicode 18.0";
+const VERSION: &str = "2.5.0, with tables of Unicode 18.0";
 
 const ABOUT: &str = "Break a text into graphemes, words, sentences or lines";
 
@@ -27,7 +27,7 @@ const AFTER_HELP: &str = "Examples:
   segment --only-words --count notes.txt   how many words there are
   segment --by sentence --format json -    the sentences of the standard input, as JSON
   segment --rules my.rules notes.txt       the segments by your rules
-  segment --rules my.rules --explain a.txt the rules that make each segment
+  segment --by line --explain 40 notes.txt why there is a boundary at 40, or none
   segment --check my.rules                 the first fault of your rules
   segment --lint my.rules                  what changes nothing in your rules
 
@@ -62,11 +62,14 @@ const LINES_ARE_LINES: &[u8] = b"error: --format lines breaks by --by line, --ru
 const LINES_ARE_WHOLE: &[u8] =
     b"error: --format lines prints the whole text, without --only and --only-words\n";
 
-const NO_RULES: &[u8] =
-    b"error: --explain needs --rules, since a table doesn't have the rules that it \
-    was made of; those of the built-in tables are in the repository's folder rules/\n";
-
 const ONE_FILE: &[u8] = b"error: --explain takes one file\n";
+
+const NO_LANGUAGE: &[u8] = b"error: --suppress has the abbreviations of en and de alone; a file \
+    with a name of two letters is written with its folder, as ./fr\n";
+
+const ONE_INPUT: &[u8] =
+    b"error: - stands for the standard input, which is read once: give the text or \
+    the rules as a file\n";
 
 const BAD_PLACE: &[u8] = b"error: --explain takes a place, which is a number, as 100\n";
 
@@ -119,7 +122,21 @@ static OPTIONS: [Described; 22] = [
     Described {
         name: "by",
         short: Some('b'),
-        takes: Takes::Choice("KIND", &["grapheme", "word", "sentence", "line"]),
+        takes: Takes::Choice(
+            "KIND",
+            &[
+                "grapheme",
+                "word",
+                "sentence",
+                "line",
+                "line-strict",
+                "line-normal",
+                "line-loose",
+                "line-cj",
+                "line-normal-cj",
+                "line-loose-cj",
+            ],
+        ),
         conflicts: &["rules", "table", "check", "lint"],
         help: "What the segments are, by the built-in tables [default: word]",
     },
@@ -290,7 +307,7 @@ static OPTIONS: [Described; 22] = [
         conflicts: &[
             "check", "lint", "format", "null", "count", "suppress", "tailor",
         ],
-        help: "Say which rules of --rules make each segment, or what holds at PLACE",
+        help: "Say which rules make each segment, or what holds at PLACE",
     },
     Described {
         name: "color",
@@ -399,17 +416,36 @@ pub(crate) enum Meaning<'a> {
     Fails(Failure),
 }
 
+/// The line of a message. That of usage names texts only where they go with its options.
+fn shown_line(line: &str) -> &str {
+    let takes_no_text = line.contains(" --check ") || line.contains(" --lint ");
+    match line.strip_suffix(" [FILE]...") {
+        Some(shown) if takes_no_text && line.starts_with("Usage: ") => shown,
+        _ => line,
+    }
+}
+
+/// The message of an error.
+fn message_of(alloc: Global, text: &str) -> Result<Vec<u8>, AllocError> {
+    let mut message = Vec::new(alloc);
+    for line in text.lines() {
+        append(shown_line(line).as_bytes(), &mut message)?;
+        append(b"\n", &mut message)?;
+    }
+    Ok(message)
+}
+
 /// What words say that have this error.
 fn meaning_of<'a>(alloc: Global, error: &Error) -> Result<Meaning<'a>, AllocError> {
     if error.kind() == ErrorKind::OutOfMemory {
         return Ok(Meaning::Fails(Failure::Memory));
     }
     let text = format!(in alloc; "{error}")?;
-    let bytes = text.as_bytes().to_vec(alloc)?;
     Ok(if error.use_stderr() {
-        Meaning::Fails(Failure::Told(Status::IsRefused, bytes))
+        let message = message_of(alloc, text.as_str())?;
+        Meaning::Fails(Failure::Told(Status::IsRefused, message))
     } else {
-        Meaning::Shows(bytes)
+        Meaning::Shows(text.as_bytes().to_vec(alloc)?)
     })
 }
 
@@ -435,6 +471,12 @@ fn kind_of(matches: &ArgMatches<'_>) -> Kind {
         Some("word") => Kind::Word,
         Some("sentence") => Kind::Sentence,
         Some("line") => Kind::Line,
+        Some("line-strict") => Kind::LineStrict,
+        Some("line-normal") => Kind::LineNormal,
+        Some("line-loose") => Kind::LineLoose,
+        Some("line-cj") => Kind::LineCj,
+        Some("line-normal-cj") => Kind::LineNormalCj,
+        Some("line-loose-cj") => Kind::LineLooseCj,
         _ if matches.get_str("format") == Some("lines") => Kind::Line,
         _ => Kind::Word,
     }
@@ -452,7 +494,10 @@ fn mark_of<'a>(matches: &ArgMatches<'a>) -> Result<Mark<'a>, Refusal> {
 /// How many columns a line has at most in the format of lines. The options that choose what is
 /// printed, and by which built-in table, don't go with it.
 fn width_of(matches: &ArgMatches<'_>) -> Result<u32, Refusal> {
-    if !matches!(matches.get_str("by"), None | Some("line")) {
+    if matches!(
+        kind_of(matches),
+        Kind::Grapheme | Kind::Word | Kind::Sentence
+    ) {
         return Err(Refusal::Wrong(LINES_ARE_LINES));
     }
     if matches.get_str("only").is_some() || matches.get_flag("only-words") {
@@ -537,12 +582,9 @@ fn place_of(text: &str) -> Option<u32> {
 }
 
 /// What is to be explained.
-fn explain_of(matches: &ArgMatches<'_>, basis: Basis<'_>) -> Result<Option<Asked>, Refusal> {
+fn explain_of(matches: &ArgMatches<'_>) -> Result<Option<Asked>, Refusal> {
     let Some(value) = matches.get_str("explain") else {
         return Ok(None);
-    };
-    let Basis::Rules(_) = basis else {
-        return Err(Refusal::Wrong(NO_RULES));
     };
     if matches.get_strs("file").unwrap_or(&[]).len() > 1 {
         return Err(Refusal::Wrong(ONE_FILE));
@@ -632,18 +674,49 @@ fn wanted_of(matches: &ArgMatches<'_>) -> Result<Wanted, Refusal> {
     })
 }
 
+/// Whether a name is that of a language: two small letters.
+fn is_language(name: &str) -> bool {
+    name.len() == 2 && name.bytes().all(|byte| byte.is_ascii_lowercase())
+}
+
 /// The filter that is named. A file of abbreviations that has the name of a language is `./en`.
-fn filtering_of<'a>(matches: &ArgMatches<'a>) -> Filtering<'a> {
+fn filtering_of<'a>(matches: &ArgMatches<'a>) -> Result<Filtering<'a>, Refusal> {
     match matches.get_str("suppress") {
-        Some("en") => return Filtering::Language(Language::English),
-        Some("de") => return Filtering::Language(Language::German),
-        Some(name) => return Filtering::Abbreviations(name),
+        Some("en") => return Ok(Filtering::Language(Language::English)),
+        Some("de") => return Ok(Filtering::Language(Language::German)),
+        Some(name) if is_language(name) => return Err(Refusal::Wrong(NO_LANGUAGE)),
+        Some(name) => return Ok(Filtering::Abbreviations(name)),
         None => {}
     }
-    match matches.get_str("tailor") {
+    Ok(match matches.get_str("tailor") {
         Some(name) => Filtering::Pairs(name),
         None => Filtering::Nothing,
+    })
+}
+
+/// How many names of a list are that of the standard input.
+fn inputs_in(names: &[&str]) -> usize {
+    names.iter().filter(|name| **name == "-").count()
+}
+
+/// How many times the standard input is to be read.
+fn inputs_of(matches: &ArgMatches<'_>, choices: Choices<'_>, names: &[&str]) -> usize {
+    let texts = match choices.task {
+        Task::Segment => inputs_in(names),
+        Task::Check | Task::Lint(_, _) => 0,
+    };
+    let mut count = texts;
+    for name in ["rules", "table", "check", "lint", "suppress", "tailor"] {
+        if matches.get_str(name) == Some("-") {
+            count = count.saturating_add(1);
+        }
     }
+    for given in matches.get_strs("prop").unwrap_or(&[]) {
+        if given.ends_with("=-") {
+            count = count.saturating_add(1);
+        }
+    }
+    count
 }
 
 /// What is asked for beside the files.
@@ -674,7 +747,7 @@ fn choices_of<'a>(matches: &ArgMatches<'a>) -> Result<Choices<'a>, Refusal> {
         basis,
         format: format_of(matches)?,
         wanted: wanted_of(matches)?,
-        explain: explain_of(matches, basis)?,
+        explain: explain_of(matches)?,
     })
 }
 
@@ -686,6 +759,9 @@ fn request_of<'a>(
 ) -> Result<Request<'a>, Refusal> {
     let properties = properties_of(alloc, matches)?;
     let names = names_of(alloc, matches)?;
+    if inputs_of(matches, choices, names.as_slice()) > 1 {
+        return Err(Refusal::Wrong(ONE_INPUT));
+    }
     let has_headings = names.len() > 1 && !matches.get_flag("no-filename");
     Ok(Request {
         task: choices.task,
@@ -694,7 +770,7 @@ fn request_of<'a>(
         basis: choices.basis,
         properties,
         ignore_dictionary: matches.get_flag("ignore-dictionary"),
-        filtering: filtering_of(matches),
+        filtering: filtering_of(matches)?,
         format: choices.format,
         unit: unit_of(matches),
         wanted: choices.wanted,

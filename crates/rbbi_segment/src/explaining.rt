@@ -19,11 +19,15 @@ use rbbi_explain::{Explainer, Explanation, Origin, Part, Reason, RuleText, rule_
 use rbbi_io::{Files, Sink, WriteErr, put_all, put_when_full};
 use rbbi_props::PropTable;
 use rbbi_resolve::Rules;
+use rbbi_segment_tables::{Kind, built_in};
 use rbbi_table::{FrontPlaces, Table};
-use rbbi_text::{Chars, PlainText, Steps, Unit, append, append_number};
+use rbbi_text::{Chars, MOST_BYTES, PlainText, Steps, Unit, append, append_number};
 use std::alloc::{AllocError, Global};
 use std::io::Read;
 use std::sync::ledger::Ledger;
+
+const NO_RULES: &[u8] = b"error: --explain goes with --by or --rules: a table file doesn't have \
+    the rules that it was made of\n";
 
 /// The rules of a file.
 #[derive(Drop)]
@@ -76,8 +80,26 @@ fn known_by<'a>(
     })
 }
 
-/// What is known of the rules of a file that has a table.
+/// What is known of the rules of a text that has a table, so that it has no fault, and no more than
+/// 1,000 categories.
 fn known_of<'a>(
+    alloc: Global,
+    name: &'a str,
+    text: &str,
+    properties: &mut PropTable,
+    ignore_dictionary: bool,
+) -> Result<Known<'a>, Failure>
+    requires { length text.now ≤ most_bytes }
+{
+    add_asked_for(alloc, text, properties)?;
+    match read_rules(alloc, text, properties, ignore_dictionary) {
+        Ok(rules) => known_by(alloc, name, text, &rules),
+        Err(_) => Err(Failure::Memory),
+    }
+}
+
+/// The same of the bytes of a file that has a table.
+fn known_in<'a>(
     alloc: Global,
     name: &'a str,
     bytes: &[u8],
@@ -86,13 +108,8 @@ fn known_of<'a>(
 ) -> Result<Known<'a>, Failure>
     requires { length bytes.now ≤ most_bytes }
 {
-    // The file was compiled, so it has no fault, and no more than 1,000 categories.
-    let Ok(text) = rule_text(bytes) else {
-        return Err(Failure::Memory);
-    };
-    add_asked_for(alloc, text, properties)?;
-    match read_rules(alloc, text, properties, ignore_dictionary) {
-        Ok(rules) => known_by(alloc, name, text, &rules),
+    match rule_text(bytes) {
+        Ok(text) => known_of(alloc, name, text, properties, ignore_dictionary),
         Err(_) => Err(Failure::Memory),
     }
 }
@@ -136,7 +153,49 @@ fn ruled_by<'a>(
     let colors = surroundings.output_colors(request.color);
     let ignored = request.ignore_dictionary;
     let table = table_of_rules(alloc, name, bytes, properties, ignored, faults)?;
-    let known = known_of(alloc, name, bytes, properties, ignored)?;
+    let known = known_in(alloc, name, bytes, properties, ignored)?;
+    Ok(Ruled {
+        table,
+        receiver: receiver_of(alloc, request, asked, colors, known),
+    })
+}
+
+/// The name and the text of the rules that a built-in table is made of.
+fn annex_rules(kind: Kind) -> (&'static str, &'static str) {
+    match kind {
+        Kind::Grapheme => ("grapheme.rules", rbbi_annex_rules::graphemes()),
+        Kind::Word => ("word.rules", rbbi_annex_rules::words()),
+        Kind::Sentence => ("sentence.rules", rbbi_annex_rules::sentences()),
+        Kind::Line | Kind::LineStrict => ("line.rules", rbbi_annex_rules::lines()),
+        Kind::LineNormal => ("line-normal.rules", rbbi_annex_rules::lines_normal()),
+        Kind::LineLoose => ("line-loose.rules", rbbi_annex_rules::lines_loose()),
+        Kind::LineCj => ("line-cj.rules", rbbi_annex_rules::lines_cj()),
+        Kind::LineNormalCj => ("line-normal-cj.rules", rbbi_annex_rules::lines_normal_cj()),
+        Kind::LineLooseCj => ("line-loose-cj.rules", rbbi_annex_rules::lines_loose_cj()),
+    }
+}
+
+/// What is known of the rules that a built-in table is made of.
+fn known_of_annex(alloc: Global, kind: Kind) -> Result<Known<'static>, Failure> {
+    let (name, text) = annex_rules(kind);
+    if text.len() > MOST_BYTES {
+        return Err(Failure::Memory);
+    }
+    let mut properties = PropTable::new(alloc);
+    known_of(alloc, name, text, &mut properties, false)
+}
+
+/// A built-in table, and what explains its segments.
+fn ruled_by_annex<'a>(
+    alloc: Global,
+    kind: Kind,
+    request: &Request<'_>,
+    asked: Asked,
+    surroundings: Surroundings,
+) -> Result<Ruled<'a>, Failure> {
+    let colors = surroundings.output_colors(request.color);
+    let table = built_in(alloc, kind)?;
+    let known = known_of_annex(alloc, kind)?;
     Ok(Ruled {
         table,
         receiver: receiver_of(alloc, request, asked, colors, known),
@@ -258,6 +317,11 @@ impl Known<'_> {
         if let Some(found) = self.texts.get(rule as usize) {
             append(b":", made)?;
             append_number(found.line, made)?;
+            if !found.note.is_empty() {
+                append(b" (", made)?;
+                append_name(found.note.as_str(), made)?;
+                append(b")", made)?;
+            }
         }
         Ok(())
     }
@@ -590,7 +654,41 @@ fn explain_named<F: Files, R: Read, K: Sink, L: Ledger>(
     Ok(replaced)
 }
 
-/// Says which rules of the rule file make each segment of the text that a request names, or what
+/// The failure that this line reports.
+fn told(alloc: Global, line: &[u8]) -> Failure {
+    match line.to_vec(alloc) {
+        Ok(line) => Failure::Told(Status::IsRefused, line),
+        Err(_) => Failure::Memory,
+    }
+}
+
+/// What explains by the table that a request names.
+fn ruled_of<'a, F: Files, R: Read, L: Ledger>(
+    alloc: Global,
+    request: &Request<'a>,
+    asked: Asked,
+    surroundings: Surroundings,
+    files: &mut F,
+    input: &mut R,
+    steps: &mut Steps<L>,
+) -> Result<Ruled<'a>, Failure> {
+    match request.basis {
+        Basis::BuiltIn(kind) => ruled_by_annex(alloc, kind, request, asked, surroundings),
+        Basis::Rules(name) => read_ruled(
+            alloc,
+            name,
+            request,
+            asked,
+            surroundings,
+            files,
+            input,
+            steps,
+        ),
+        Basis::Table(_) => Err(told(alloc, NO_RULES)),
+    }
+}
+
+/// Says which rules make each segment of the text that a request names, or what
 /// is at a place. It answers how many sequences of the text's bytes were replaced.
 pub(crate) fn explain<F: Files, R: Read, K: Sink, L: Ledger>(
     alloc: Global,
@@ -602,19 +700,7 @@ pub(crate) fn explain<F: Files, R: Read, K: Sink, L: Ledger>(
     out: &mut K,
     steps: &mut Steps<L>,
 ) -> Result<u32, Failure> {
-    let Basis::Rules(name) = request.basis else {
-        return Ok(0);
-    };
-    let mut ruled = read_ruled(
-        alloc,
-        name,
-        request,
-        asked,
-        surroundings,
-        files,
-        input,
-        steps,
-    )?;
+    let mut ruled = ruled_of(alloc, request, asked, surroundings, files, input, steps)?;
     explain_named(
         alloc,
         request,

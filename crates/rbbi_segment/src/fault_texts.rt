@@ -37,6 +37,14 @@ pub(crate) const OPEN_SET: FaultText = FaultText {
     help: "Close it with ]; in a set ; is a character, and \\[ is the character [.",
 };
 
+/// A status stands where a repeat is meant.
+pub(crate) const NO_REPEAT: FaultText = FaultText {
+    label: "Syntax",
+    cause: "this is a status, and no repeat",
+    help: "Write a repeat out, as [0-9] [0-9] [0-9]; a status stands once, right before the ; of \
+           its rule.",
+};
+
 /// What helps with a table file that is given as a rule file.
 pub(crate) const TABLE_FILE: &str = "This is a table file, which goes to --table.";
 

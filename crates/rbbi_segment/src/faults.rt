@@ -5,9 +5,9 @@ ghost use Rattle.rbbi_text.specs.Bytes.{most_bytes};
 use crate::colors::{Color, Colors};
 use crate::escapes::{append_name, append_plain, is_hidden};
 use crate::failure::{Failure, Status};
-use crate::fault_texts::{TABLE_FILE, text_of};
-use crate::hints::help_at;
-use crate::missing::missing_at;
+use crate::fault_texts::{FaultText, TABLE_FILE, text_of};
+use crate::hints::{class_help, help_at, no_rules_help};
+use crate::missing::{missing_at, open_set_at};
 use crate::numbers::append_long;
 use crate::source::{Position, position_of};
 use crate::unknown::{append_advice, cause_of};
@@ -38,6 +38,8 @@ pub(crate) enum Place {
     Byte(u64),
     /// The line, from 1.
     Line(u32),
+    /// The place of the text, in the unit, from 0.
+    Offset(u64),
 }
 
 /// Where a fault is shown, and what is wrong there.
@@ -142,24 +144,17 @@ fn append_at(
     append_shown(&position, source.colors, out)
 }
 
-/// Where something is missing, if that is why the file can't go on at a place. Appends how to mend
-/// it.
-fn report_missing(
-    alloc: Global,
-    source: &Source<'_>,
-    place: u32,
+/// What is wrong at a place, as a text says. Appends how to mend it.
+fn report_text(
+    found: Option<(u32, FaultText)>,
     help: &mut Vec<u8>,
-) -> Result<Option<Shown>, AllocError>
-    requires { length source.now.text.now ≤ most_bytes }
-{
-    let Some((at, text)) = missing_at(alloc, source.text, place)? else {
+) -> Result<Option<Shown>, AllocError> {
+    let Some((place, text)) = found else {
         return Ok(None);
     };
     append(text.help.as_bytes(), help)?;
-    Ok(Some(Shown {
-        place: at,
-        cause: text.cause,
-    }))
+    let cause = text.cause;
+    Ok(Some(Shown { place, cause }))
 }
 
 /// What is wrong with a property. Appends how to mend it.
@@ -175,11 +170,30 @@ fn report_unknown(
     let Some(advice) = advice_at(alloc, source.text, place, given)? else {
         return Ok(None);
     };
-    append_advice(&advice, help)?;
+    match class_help(&position_of(source.text, place)) {
+        Some(class) => append(class.as_bytes(), help)?,
+        None => append_advice(&advice, help)?,
+    }
     Ok(Some(Shown {
         place,
         cause: cause_of(advice.unknown),
     }))
+}
+
+/// What helps with a fault of a label at a place, if what stands there is known.
+fn hint_of(source: &Source<'_>, label: &str, place: u32) -> Option<&'static str> {
+    if label == "NoRules" {
+        return no_rules_help(source.text);
+    }
+    help_at(label, &position_of(source.text, place))
+}
+
+/// How to mend a fault of a label. A table file is no rule file.
+fn help_of(source: &Source<'_>, label: &str, place: u32, text: FaultText) -> &'static str {
+    if source.text.starts_with("RBBITBL") {
+        return TABLE_FILE;
+    }
+    hint_of(source, label, place).unwrap_or(text.help)
 }
 
 /// What is wrong by the label alone. Appends how to mend it.
@@ -196,9 +210,7 @@ fn report_label(
         append_name_advice(alloc, source.text, label == "Redefined", place, help)?;
     }
     let text = text_of(label);
-    let hint = help_at(label, &position_of(source.text, place)).unwrap_or(text.help);
-    let is_table = source.text.starts_with("RBBITBL");
-    append(if is_table { TABLE_FILE } else { hint }.as_bytes(), help)?;
+    append(help_of(source, label, place, text).as_bytes(), help)?;
     Ok(Shown {
         place,
         cause: text.cause,
@@ -217,7 +229,8 @@ fn report_there(
     requires { length source.now.text.now ≤ most_bytes }
 {
     match label {
-        "Syntax" => report_missing(alloc, source, place, help),
+        "Syntax" => report_text(missing_at(alloc, source.text, place)?, help),
+        "BadChar" => report_text(open_set_at(alloc, source.text, place)?, help),
         "UnknownProperty" => report_unknown(alloc, source, place, given, help),
         _ => Ok(None),
     }
@@ -257,6 +270,12 @@ fn append_fault(
     append_help(&help, out)
 }
 
+/// Appends words and a number.
+fn append_long_after(words: &[u8], number: u64, out: &mut Vec<u8>) -> Result<(), AllocError> {
+    append(words, out)?;
+    append_long(number, out)
+}
+
 /// Appends what is reported of a fault of a file.
 fn append_of(
     name: &str,
@@ -272,9 +291,10 @@ fn append_of(
         append_number(line, out)?;
     }
     append_cause(label, text.cause, colors, out)?;
-    if let Place::Byte(at) = place {
-        append(b", at byte ", out)?;
-        append_long(at, out)?;
+    match place {
+        Place::Byte(at) => append_long_after(b", at byte ", at, out)?,
+        Place::Offset(at) => append_long_after(b", from place ", at, out)?,
+        _ => {}
     }
     append_help(text.help.as_bytes(), out)
 }

@@ -1,4 +1,5 @@
-//! What is found in a rule file that changes nothing, and why its rules are needed.
+//! What is found in a rule file that changes nothing or was likely meant otherwise, and why its rules
+//! are needed.
 ghost use Rattle.std.specs.Prelude.{◌≤◌, length};
 ghost use Rattle.rbbi_text.specs.Bytes.{most_bytes};
 
@@ -14,7 +15,9 @@ use crate::source::position_of;
 use rbbi_builtin::add_asked_for;
 use rbbi_compile::{read_rules, rule_text};
 use rbbi_io::{Files, Sink, put_all};
-use rbbi_lint::{Effect, Findings, Pair, Part, Piece, effect_of, lint, pieces};
+use rbbi_lint::{
+    Effect, Findings, Found, Habit, Hidden, Pair, Part, Piece, effect_of, lint, pieces,
+};
 use rbbi_props::PropTable;
 use rbbi_resolve::Rules;
 use rbbi_table::Table;
@@ -87,24 +90,127 @@ fn together_text(alloc: Global, text: &str, pair: &Pair) -> Result<Vec<u8>, Allo
     Ok(out)
 }
 
-/// The report of what was found in a text.
-fn report_of(alloc: Global, text: &str, findings: &Findings) -> Result<Report, AllocError> {
-    let mut report = Report::new(alloc);
+/// What is said of a rule whose status is never shown.
+fn hidden_text(alloc: Global, text: &str, hidden: &Hidden) -> Result<Vec<u8>, AllocError> {
+    let mut out = Vec::new(alloc);
+    append(b"the status ", &mut out)?;
+    append_number(hidden.status, &mut out)?;
+    append(
+        b" is never shown: where this rule ends, a rule with a greater one ends too, \
+          as that of line ",
+        &mut out,
+    )?;
+    append_number(position_of(text, hidden.other).row, &mut out)?;
+    append(b" with ", &mut out)?;
+    append_number(hidden.other_status, &mut out)?;
+    Ok(out)
+}
+
+/// What is said of a status that directly follows an atom.
+fn repeat_text(alloc: Global, count: u32) -> Result<Vec<u8>, AllocError> {
+    let mut out = Vec::new(alloc);
+    append(b"{", &mut out)?;
+    append_number(count, &mut out)?;
+    append(
+        b"} is a status and repeats nothing; write a status after a space",
+        &mut out,
+    )?;
+    Ok(out)
+}
+
+/// What is said of a habit, whatever its count.
+fn habit_words(habit: Habit) -> &'static str {
+    match habit {
+        Habit::Repeat(_) => "this is a status and repeats nothing",
+        Habit::Backspace => r"\b is a backspace (U+0008); nothing marks the edge of a word",
+        Habit::Comment => r"this line is a comment, since it begins with #; the character is \#",
+        Habit::AnyCharacter => r". is any character; a full stop is \. or '.'",
+        Habit::TwoQuotes => r"'''' is two quotes; one is '' or \'",
+        Habit::MixedRange => "this range goes on over other characters than its ends are",
+    }
+}
+
+/// What is said of a habit.
+fn habit_text(alloc: Global, habit: Habit) -> Result<Vec<u8>, AllocError> {
+    match habit {
+        Habit::Repeat(count) => repeat_text(alloc, count),
+        _ => habit_words(habit).as_bytes().to_vec(alloc),
+    }
+}
+
+/// What is said of a look-ahead rule that may cut later than meant.
+const LATE_CUT: &[u8] = b"this rule may cut within what its rest matches: the front has several \
+    lengths, and its last character may begin the rest";
+
+/// Adds what changes nothing.
+fn add_idle(
+    alloc: Global,
+    text: &str,
+    findings: &Findings,
+    report: &mut Report,
+) -> Result<(), AllocError> {
     for piece in &findings.idle {
         let said = idle_text(piece.part);
         report.find(alloc, place_of(text, piece), said.as_bytes())?;
     }
-    for place in &findings.unused {
-        report.find(alloc, *place, b"no rule uses this variable")?;
-    }
-    for place in &findings.empty {
-        let said = b"this rule can match the empty text, which is never a segment";
-        report.find(alloc, *place, said)?;
-    }
+    Ok(())
+}
+
+/// Adds the statuses that no output distinguishes, and those that are never shown.
+fn add_endings(
+    alloc: Global,
+    text: &str,
+    findings: &Findings,
+    report: &mut Report,
+) -> Result<(), AllocError> {
     for pair in &findings.together {
         let said = together_text(alloc, text, pair)?;
         report.find(alloc, pair.later, &said)?;
     }
+    for hidden in &findings.hidden {
+        let said = hidden_text(alloc, text, hidden)?;
+        report.find(alloc, hidden.place, &said)?;
+    }
+    Ok(())
+}
+
+/// Adds places of which the same is said.
+fn add_all(
+    alloc: Global,
+    places: &[u32],
+    said: &[u8],
+    report: &mut Report,
+) -> Result<(), AllocError> {
+    for place in places {
+        report.find(alloc, *place, said)?;
+    }
+    Ok(())
+}
+
+/// Adds what means something else in other languages.
+fn add_habits(alloc: Global, habits: &[Found], report: &mut Report) -> Result<(), AllocError> {
+    for found in habits {
+        let said = habit_text(alloc, found.habit)?;
+        report.find(alloc, found.place, &said)?;
+    }
+    Ok(())
+}
+
+/// The report of what was found in a text.
+fn report_of(alloc: Global, text: &str, findings: &Findings) -> Result<Report, AllocError> {
+    let mut report = Report::new(alloc);
+    let empty = b"this rule can match the empty text, which is never a segment";
+    add_idle(alloc, text, findings, &mut report)?;
+    add_all(
+        alloc,
+        findings.unused.as_slice(),
+        b"no rule uses this variable",
+        &mut report,
+    )?;
+    add_all(alloc, findings.empty.as_slice(), empty, &mut report)?;
+    add_all(alloc, findings.late.as_slice(), LATE_CUT, &mut report)?;
+    add_endings(alloc, text, findings, &mut report)?;
+    add_habits(alloc, findings.habits.as_slice(), &mut report)?;
     report.remarks.sort_by_key(|remark| remark.place)?;
     Ok(report)
 }

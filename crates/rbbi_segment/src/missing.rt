@@ -1,10 +1,12 @@
-//! Where a ; or a closing bracket is missing, if a rule file can't go on at a place.
+//! Where a ; or a closing bracket is missing, or a status was meant as a repeat, if a rule file can't
+//! go on at a place.
 ghost use Rattle.std.specs.Prelude.{◌≤◌, length};
 ghost use Rattle.rbbi_text.specs.Bytes.{most_bytes};
 
-use crate::fault_texts::{FaultText, NO_SEMICOLON, OPEN_GROUP, OPEN_SET};
+use crate::fault_texts::{FaultText, NO_REPEAT, NO_SEMICOLON, OPEN_GROUP, OPEN_SET};
 use crate::source::position_of;
 use rbbi_lex::{Token, TokenKind, Tokens, lex};
+use rbbi_text::MOST_BYTES;
 use std::alloc::{AllocError, Global};
 
 /// What stands before a place.
@@ -96,9 +98,23 @@ impl<'a> Before<'a> {
         match (&open.kind, found) {
             (_, None) => Some(open),
             (TokenKind::ParenOpen, Some(found)) if ends(last) => match &found.kind {
-                TokenKind::Semi => Some(open),
+                TokenKind::Semi | TokenKind::Tag(_) => Some(open),
                 _ => None,
             },
+            _ => None,
+        }
+    }
+
+    /// The status right before a token, if it directly follows an atom of its line.
+    fn repeat(&self, text: &str, found: Option<&Token>) -> Option<&'a Token> {
+        let last = self.last?;
+        let before = last.place.checked_sub(1)?;
+        let is_at_line_end = self.line_end.is_some_and(|end| end.place == last.place);
+        if found.is_none() || is_at_line_end {
+            return None;
+        }
+        match (&last.kind, text.chars().nth(before as usize)) {
+            (TokenKind::Tag(_), Some(c)) if !c.is_whitespace() && c != ';' => Some(last),
             _ => None,
         }
     }
@@ -147,8 +163,74 @@ pub(crate) fn missing_at(
         let text = if is_set { OPEN_SET } else { OPEN_GROUP };
         return Ok(Some((open.place, text)));
     }
+    if let Some(token) = before.repeat(text, found) {
+        return Ok(Some((token.place, NO_REPEAT)));
+    }
     match before.unended(found) {
         Some(token) if ends(token) => Ok(Some((token.place, NO_SEMICOLON))),
         _ => Ok(None),
+    }
+}
+
+/// Whether a status begins a text, and no set is closed after it in its statement.
+fn begins_status(text: &str) -> bool {
+    let Some((body, rest)) = text.split_once('}') else {
+        return false;
+    };
+    let Some(digits) = body.strip_prefix('{') else {
+        return false;
+    };
+    let statement = match rest.split_once(';') {
+        Some((statement, _)) => statement,
+        None => rest,
+    };
+    let is_number = !digits.is_empty() && digits.bytes().all(|byte| byte.is_ascii_digit());
+    is_number && !statement.contains(']')
+}
+
+/// The characters before a place.
+fn text_before(alloc: Global, text: &str, place: u32) -> Result<String, AllocError> {
+    let mut made = String::new(alloc);
+    for c in text.chars().take(place as usize) {
+        made.push(c)?;
+    }
+    Ok(made)
+}
+
+/// The place of the last set that is open after all these tokens.
+fn last_open_set(alloc: Global, tokens: &Tokens) -> Result<Option<u32>, AllocError> {
+    let mut open = Vec::new(alloc);
+    for i in 0..tokens.len() {
+        let token = tokens.get(i);
+        match &token.kind {
+            TokenKind::SetOpen => open.push(token.place)?,
+            TokenKind::SetClose => {
+                let _ = open.pop();
+            }
+            _ => {}
+        }
+    }
+    Ok(open.last().copied())
+}
+
+/// The set that isn't closed before the status that stands at a place, if one does.
+pub(crate) fn open_set_at(
+    alloc: Global,
+    text: &str,
+    place: u32,
+) -> Result<Option<(u32, FaultText)>, AllocError> {
+    if !begins_status(position_of(text, place).rest) {
+        return Ok(None);
+    }
+    let before = text_before(alloc, text, place)?;
+    if before.len() > MOST_BYTES {
+        return Ok(None);
+    }
+    let Ok(tokens) = lex(alloc, before.as_str()) else {
+        return Ok(None);
+    };
+    match last_open_set(alloc, &tokens)? {
+        Some(place) => Ok(Some((place, OPEN_SET))),
+        None => Ok(None),
     }
 }

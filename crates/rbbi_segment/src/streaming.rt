@@ -344,7 +344,7 @@ pub(crate) fn hand_over<R: Read, V: Receive, K: Sink, L: Ledger>(
         let pending = window.len() - progress.start;
         if pending > limit {
             receiver.pause(out)?;
-            return Err(origin.fault("SegmentTooLong", Place::Whole));
+            return Err(origin.fault("SegmentTooLong", Place::Offset(progress.offset)));
         }
         if is_last {
             receiver.end(out)?;

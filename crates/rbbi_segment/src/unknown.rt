@@ -40,6 +40,25 @@ fn first_of(names: &str) -> &str {
     }
 }
 
+/// At most this many values are listed.
+const MOST: usize = 50;
+
+/// Appends the values of a property, each by its first name, if they are few.
+fn append_values(property: Property, out: &mut Vec<u8>) -> Result<(), AllocError> {
+    let values = property.values();
+    if values.len() > MOST {
+        return Ok(());
+    }
+    append(b" Its values are ", out)?;
+    for (place, names) in values.iter().enumerate() {
+        if place > 0 {
+            append(b", ", out)?;
+        }
+        append(first_of(names).as_bytes(), out)?;
+    }
+    append(b".", out)
+}
+
 /// Appends how a value of a property is written.
 fn append_form(property: Property, out: &mut Vec<u8>) -> Result<(), AllocError> {
     append(b"Write \\p{", out)?;
@@ -60,7 +79,13 @@ pub(crate) fn append_advice(advice: &Advice, out: &mut Vec<u8>) -> Result<(), Al
         Unknown::Value(Property::EmojiData) => {
             append(b"Write \\p{Emoji=Extended_Pictographic}.", out)
         }
-        Unknown::NoValue(property) | Unknown::Value(property) => append_form(property, out),
+        Unknown::NoValue(property) | Unknown::Value(property) => {
+            append_form(property, out)?;
+            if advice.near.is_empty() {
+                append_values(property, out)?;
+            }
+            Ok(())
+        }
         Unknown::ValueOfFile => append(b"Spell the value as the file does.", out),
         Unknown::Property => append(
             b"Properties with values are gc, sc, GCB, WB, SB, lb, ea, InCB and ExtPict, and not \
