@@ -44,11 +44,21 @@ def version_of(path):
     return call().decode()
 
 
+def platform_of(path):
+    """The platform of a library's wheel. On Linux it names the oldest glibc that the library runs with:
+    that of the newest symbols that it asks for (PEP 600)."""
+    platform = re.sub('[-.]', '_', sysconfig.get_platform())
+    wanted = [int(minor) for minor in re.findall(rb'GLIBC_2\.(\d+)', path.read_bytes())]
+    if not platform.startswith('linux_') or not wanted:
+        return platform
+    return platform.replace('linux_', f'manylinux_2_{max(*wanted, 17)}_', 1)
+
+
 def build_wheel(wheel_directory, config_settings=None, metadata_directory=None):
     """Writes the wheel, and gives its name."""
     shared = library()
     version = version_of(shared)
-    platform = re.sub('[-.]', '_', sysconfig.get_platform())
+    platform = platform_of(shared)
     kept = f'rbbi-{version}.dist-info'
     package = HERE / 'src' / 'rbbi'
     files = {f'rbbi/{path.name}': path.read_bytes()

@@ -34,12 +34,12 @@ def counted(table, name):
     return os.path.basename(name), len(text), len(table_of(table).words(text))
 
 
-def mapped(table, names, workers):
-    """The counts of each document, by Dask's processes."""
+def over_dask(call, rows, workers):
+    """What a call gives for each row of arguments, by Dask's processes. One that ends is begun again."""
     from dask.distributed import Client, LocalCluster
     with LocalCluster(n_workers=workers, threads_per_worker=1, dashboard_address=None) as cluster:
         with Client(cluster) as client:
-            return client.gather(client.map(counted, [table] * len(names), names, pure=False))
+            return client.gather(client.map(call, *zip(*rows), pure=False))
 
 
 def main():
@@ -47,7 +47,8 @@ def main():
     table = os.path.abspath(table) if os.path.exists(table) else table
     workers = int(sys.argv[3]) if len(sys.argv) > 3 else 0
     names = sorted(entry.path for entry in os.scandir(folder) if entry.is_file())
-    lines = mapped(table, names, workers) if workers else [counted(table, n) for n in names]
+    calls = [(table, name) for name in names]
+    lines = over_dask(counted, calls, workers) if workers else [counted(*call) for call in calls]
     for name, characters, words in lines:
         print(name, characters, words)
 

@@ -2,6 +2,7 @@
 import copy
 import ctypes
 import inspect
+import io
 import pickle
 import random
 import sys
@@ -12,6 +13,8 @@ from concurrent.futures import ProcessPoolExecutor
 
 import rbbi
 from rbbi import Answer, Error, Fault, LoneSurrogate, Segment, Table, Unit
+
+PIECED = "ab 12.A'\r\n\u0301\u05d0\u200d\u3042\u4e00\U0001f1e6\U0001f600"
 
 RULES = """!!chain;
 $Letter = [A-Za-z\u00e4];
@@ -242,7 +245,7 @@ class Tables(unittest.TestCase):
                 with loaded.session('ab 12') as session:
                     self.assertEqual([segment.end for segment in session], [2, 3, 5])
 
-    def test_the_library_has_four_tables(self):
+    def test_a_table_of_the_library_has_a_name(self):
         ends = {'grapheme': [1, 3, 4], 'word': [3, 4], 'sentence': [4], 'line': [4]}
         for name, wanted in ends.items():
             with Table.named(name) as table, table.session('ae\u0301.') as session:
@@ -310,6 +313,15 @@ class Texts(unittest.TestCase):
         self.assertEqual(rbbi.sentences('Is it 3 p.m.? No.'), ['Is it 3 p.m.? ', 'No.'])
         self.assertEqual(rbbi.lines('one two-three'), ['one ', 'two-', 'three'])
 
+    def test_lines_are_tailored_as_icu_does(self):
+        text = '\u30ab\u30c3\u4eba\u3005\u5c71\u301c\u5ddd\u2010\u4e2d\u20255\uff05\u201ca\u201d'
+        for name, ends in [('line', [2, 4, 6, 8, 10, 15]), ('line-strict', [2, 4, 6, 8, 10, 15]),
+                           ('line-normal', [1, 2, 4, 6, 8, 10, 15]), ('line-loose', [1, 2, 3, 4, 6, 8, 10, 15]),
+                           ('line-cj', [2, 4, 6, 8, 10, 12, 15]), ('line-normal-cj', [1, 2, 4, 5, 6, 8, 10, 12, 15]),
+                           ('line-loose-cj', [1, 2, 3, 4, 5, 6, 7, 8, 10, 11, 12, 15])]:
+            with Table.named(name) as table:
+                self.assertEqual(list(table.boundaries(text).places), ends, name)
+
     def test_boundaries_are_those_of_a_session(self):
         random.seed(3)
         with Table.named('word') as table:
@@ -329,9 +341,47 @@ class Texts(unittest.TestCase):
             self.assertEqual(table.spans(text)[-3:],
                              [(150000, 150001), (150001, 150002), (150002, 150003)])
 
+    def test_pieces_that_are_searched_apart_have_the_boundaries_of_the_whole(self):
+        source = random.Random(3)
+        rules = "[a-z]+ / ' ' [0-9]+ {3}; [a-z ]+ {1}; [a-z]+ ' '* [A-Z]{2}; .;"
+        tables = [Table.named(name) for name in ('grapheme', 'word', 'sentence', 'line')]
+        for table in tables + [Table.compile(rules)]:
+            for _ in range(60):
+                text = ''.join(source.choices(PIECED, k=source.randint(1, 150)))
+                for whole in (text, text.encode()):
+                    places, statuses = [], []
+                    for piece in table.pieces(whole, source.randint(1, 8)):
+                        found = table.boundaries_in(piece, whole[piece.start:piece.end])
+                        places += found.places
+                        statuses += found.statuses
+                    self.assertEqual((places, statuses), tuple(map(list, table.boundaries(whole))))
+        with self.assertRaises(ValueError):
+            tables[0].pieces('a', 0)
+        self.assertEqual(tables[1].pieces('', 3), [(0, 0, 0, 0)])
+
     def test_bytes_that_are_not_utf8_are_refused(self):
         with Table.named('word') as table, self.assertRaises(Error) as caught:
             table.boundaries(b'ab \xff')
+        self.assertEqual(caught.exception.answer, Answer.NOT_UTF8)
+
+    def test_a_file_is_scanned_piece_by_piece(self):
+        random.seed(4)
+        with Table.named('word') as table:
+            for _ in range(20):
+                text = ''.join(random.choices(self.PIECES, k=random.randint(0, 20000))).encode()
+                segments = list(table.scan(io.BytesIO(text)))
+                self.assertEqual([s.end for s in segments], list(table.boundaries(text).places))
+                self.assertEqual([s.status for s in segments], list(table.boundaries(text).statuses))
+                self.assertEqual([(s.start, s.end) for s in segments], table.spans(text))
+                words = table.scan(io.BytesIO(text), only_words=True)
+                self.assertEqual([text[s.start:s.end] for s in words], table.words(text))
+
+    def test_a_fault_of_a_file_comes_after_the_segments_before_it(self):
+        with Table.named('word') as table:
+            found = table.scan(io.BytesIO(b'ab cd \xff ef'))
+            self.assertEqual([next(found).end for _ in range(3)], [2, 3, 5])
+            with self.assertRaises(Error) as caught:
+                list(found)
         self.assertEqual(caught.exception.answer, Answer.NOT_UTF8)
 
     def test_a_table_is_pickled(self):

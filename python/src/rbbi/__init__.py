@@ -21,15 +21,17 @@ import enum
 import sys
 import threading
 from array import array
+from bisect import bisect_left, bisect_right
 from typing import (Any, Callable, ClassVar, Iterable, Iterator, NamedTuple, Optional, TypeVar,
                     Union)
 
 from ._library import (LIBRARY, Answer, CChange, CFault, Error, Fault, Handle, LoneSurrogate,
                        checked)
-from ._scan import scanned
+from ._pieces import Piece, pieces
+from ._scan import fed, scanned
 
-__all__ = ['Answer', 'Boundaries', 'Change', 'Error', 'Fault', 'LoneSurrogate', 'Segment', 'Session',
-           'Table', 'Tally', 'Text', 'Unit', 'graphemes', 'lines', 'sentences', 'unicode_version',
+__all__ = ['Answer', 'Boundaries', 'Change', 'Error', 'Fault', 'LoneSurrogate', 'Piece', 'Segment',
+           'Session', 'Table', 'Tally', 'Text', 'Unit', 'graphemes', 'lines', 'sentences', 'unicode_version',
            'version', 'words']
 
 Text = Union[str, bytes]
@@ -190,6 +192,8 @@ class Table(_Closing):
         """A table that is in the library: `grapheme`, `word`, `sentence` or `line`.
 
         The first three are by UAX #29 of Unicode 18.0, the last by UAX #14 of 17.0 over data of 18.0.
+        Lines as CSS tailors them are `line-strict`, which is `line`, `line-normal` and `line-loose`, and
+        for Chinese and Japanese `line-cj`, `line-normal-cj` and `line-loose-cj`.
         """
         if '\0' in name:  # where the name would end for C
             raise Error(Answer.NAME)
@@ -223,8 +227,30 @@ class Table(_Closing):
 
         The text is searched where it is, once, and may have any length.
         """
-        places, statuses = scanned(self._lock, self._ref, text, is_words=False)[1:]
+        with self.share() as table:
+            places, statuses = scanned(table._ref, text, is_words=False)[1:]
         return Boundaries(places, statuses)
+
+    def pieces(self, text: Any, count: int) -> list[Piece]:
+        """At most `count` pieces of a text, cut at anchors, to be searched apart by `boundaries_in`.
+
+        The text is a `str`, or UTF-8 in bytes or a map of a file, of which only what is near the cuts is
+        read; places count characters, or bytes. There are fewer pieces where too few places are anchors.
+        """
+        if count < 1:
+            raise ValueError('a text has one piece or more')
+        return pieces(self.write(), text, count)
+
+    def boundaries_in(self, piece: Piece, part: Text) -> Boundaries:
+        """The boundaries of the whole text that a piece gives, of `part`, its `text[start:end]`.
+
+        Those of all pieces in turn are those that `boundaries` gives for the whole text.
+        """
+        found = self.boundaries(part)
+        begin = bisect_left(found.places, piece.first - piece.start)
+        end = bisect_right(found.places, piece.last - piece.start)
+        return Boundaries(array('Q', map(piece.start.__add__, found.places[begin:end])),
+                          found.statuses[begin:end])
 
     def spans(self, text: Text) -> list[tuple[int, int]]:
         """The segments of a text, each by its start and its end."""
@@ -237,8 +263,20 @@ class Table(_Closing):
 
     def words(self, text: Text) -> list[Any]:
         """The segments of a text with a letter or a digit of any script."""
-        starts, ends = scanned(self._lock, self._ref, text, is_words=True)[:2]
+        with self.share() as table:
+            starts, ends = scanned(table._ref, text, is_words=True)[:2]
         return [text[start:end] for start, end in zip(starts, ends)]
+
+    def scan(self, file: Any, only_words: bool = False) -> Iterator[Segment]:
+        """Each segment of a binary file of UTF-8, of any size, with places in bytes.
+
+        The file is read piece by piece as segments are asked for, and little of it is kept. With
+        `only_words` segments without a letter or a digit of any script are left out. Raises `Error`
+        after the segments before the fault if the bytes aren't UTF-8.
+        """
+        with self.share() as table:
+            for start, end, status in fed(table._ref, file, only_words):
+                yield Segment(start, end, status)
 
     def session(self, text: Text, unit: Unit = Unit.CHARS) -> Session:
         """A session over a text, with places in a unit."""
@@ -399,9 +437,12 @@ class Session(_Closing):
                                                  len(insert)))
 
     def replace_changed(self, at: int, remove: int, insert: Text) -> Change:
-        """The same edit, which returns what it changed: what an editor is to draw again.
+        """The same edit, which returns what it changed.
 
         That is the least range that has the edit in it and outside of which boundaries are as before.
+        At both of its ends they may differ. So an editor draws from `preceding(start)`, or from 0,
+        to `following(new_end)`, or to the end: without the space in "The quick" the range is empty,
+        and its segment is new.
         """
         insert, change = _bytes(insert), CChange()
         with self._lock:

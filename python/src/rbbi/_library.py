@@ -137,6 +137,9 @@ def _loaded() -> Any:
         'breaks_utf16': [handle, text, size, wide, room, room, size, count, wides],
         'words': [handle, text, size, wide, room, room, room, size, count, wides],
         'words_utf16': [handle, text, size, wide, room, room, room, size, count, wides],
+        'scan_open': [handle, handle, flag, flag],
+        'scan_feed': [handle, text, size, flag],
+        'scan_next': [handle, room, room, room, size, count, wides],
         'session_open': [handle, handle, text, size, flag],
         'session_open_utf16': [handle, handle, room, size, flag, numbers],
         'session_fork': [handle, handle],
@@ -169,7 +172,7 @@ def _loaded() -> Any:
     for name, types in taken.items():
         call = getattr(library, 'rbbi_' + name)
         call.argtypes, call.restype = types, flag
-    for name in ('files', 'table', 'session', 'tally'):
+    for name in ('files', 'table', 'scan', 'session', 'tally'):
         call = getattr(library, f'rbbi_{name}_close')
         call.argtypes, call.restype = [handle], None
     library.rbbi_message.argtypes, library.rbbi_fault_message.argtypes = [flag], [fault]
