@@ -1,5 +1,6 @@
-//! Finds librbbi.a, or has it built: in the folder RBBI_LIB_DIR; else, in the repository, as
-//! bin/build-c builds it; else, in what bin/install or bin/release made, in its folder lib.
+//! Finds librbbi.a, or has it built: in the folder RBBI_LIB_DIR; else, in the package of the crates
+//! that bin/release made, in the crate's folder lib; else, in the repository, as bin/build-c builds
+//! it; else, in what bin/install or bin/release made, in its folder lib.
 use std::env;
 use std::fs;
 use std::path::{Path, PathBuf};
@@ -29,6 +30,10 @@ fn folder() -> PathBuf {
         return PathBuf::from(named);
     }
     let here = env::var("CARGO_MANIFEST_DIR").expect("cargo names the folder");
+    let own = Path::new(&here).join("lib");
+    if own.join("librbbi.a").exists() {
+        return own;
+    }
     let top = Path::new(&here).join("../..");
     let build = top.join("bin/build-c");
     if build.exists() {

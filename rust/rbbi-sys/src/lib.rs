@@ -120,6 +120,35 @@ extern "C" {
         resume: *mut u64,
     ) -> c_int;
 
+    pub fn rbbi_scan_open(
+        scan: *mut rbbi_handle,
+        table: *mut rbbi_handle,
+        unit: c_int,
+        only_words: c_int,
+    ) -> c_int;
+    pub fn rbbi_scan_feed(
+        scan: *mut rbbi_handle,
+        piece: *const c_char,
+        length: usize,
+        is_last: c_int,
+    ) -> c_int;
+    pub fn rbbi_scan_feed_utf16(
+        scan: *mut rbbi_handle,
+        piece: *const u16,
+        length: usize,
+        is_last: c_int,
+    ) -> c_int;
+    pub fn rbbi_scan_next(
+        scan: *mut rbbi_handle,
+        starts: *mut u64,
+        ends: *mut u64,
+        statuses: *mut u32,
+        room: usize,
+        count: *mut usize,
+        place: *mut u64,
+    ) -> c_int;
+    pub fn rbbi_scan_close(scan: *mut rbbi_handle);
+
     pub fn rbbi_session_open(
         session: *mut rbbi_handle,
         table: *mut rbbi_handle,

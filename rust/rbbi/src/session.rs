@@ -207,7 +207,9 @@ impl Session {
     }
 
     /// The same edit, which also returns what it changed: the least range that has the edit in it and
-    /// outside of which all boundaries are the old ones. This is what is to be drawn again.
+    /// outside of which all boundaries are the old ones. At both of its ends they may differ. So an
+    /// editor draws from the boundary before `from`, or from 0, to the one after `new_to`, or to the
+    /// end: without the space in "The quick" the range is empty, and its segment is new.
     pub fn replace_changed(&mut self, at: u32, remove: u32, insert: &str) -> Result<Change, Error> {
         let (text, length) = (insert.as_ptr().cast(), insert.len());
         let mut change = rbbi_change {

@@ -103,7 +103,8 @@ impl Table {
     }
 
     /// A table that is in the library: `grapheme`, `word` or `sentence` by UAX #29 of Unicode 18.0, or
-    /// `line` by the rules of UAX #14 of 17.0 over the data of 18.0.
+    /// `line` by the rules of UAX #14 of 17.0 over the data of 18.0; lines as CSS tailors them are
+    /// `line-strict`, `line-normal`, `line-loose`, `line-cj`, `line-normal-cj` and `line-loose-cj`.
     ///
     /// Refuses `Name` for any other name.
     pub fn named(name: &str) -> Result<Table, Error> {
@@ -180,6 +181,12 @@ impl Table {
             .word_spans(text.as_bytes())
             .map(|span| span.expect("a word"));
         spans.map(move |span| &text[span.start..span.end])
+    }
+
+    /// The boundaries of a text after 0, in bytes. Panics as [`Table::segment_indices`] does.
+    pub fn boundaries<'a>(&'a self, text: &'a str) -> impl Iterator<Item = usize> + 'a {
+        let spans = self.spans(text.as_bytes());
+        spans.map(|span| span.expect("a boundary").end)
     }
 
     /// A session over a text, with places in a unit. The cursor is at 0.

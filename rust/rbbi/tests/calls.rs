@@ -301,6 +301,9 @@ fn a_text_that_nobody_edits_is_searched_where_it_is() {
     let table = Table::named("word").unwrap();
     let text = "can't 32.3, \u{e44}\u{e17} ".repeat(400);
     assert_eq!(table.segments(&text).collect::<String>(), text);
+    assert!(table.boundaries(&text).eq(table
+        .segment_indices(&text)
+        .map(|(start, segment)| start + segment.len())));
     assert_eq!(
         table.words(&text).take(4).collect::<Vec<_>>(),
         ["can't", "32.3", "\u{e44}", "\u{e17}"]
