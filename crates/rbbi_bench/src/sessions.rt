@@ -55,8 +55,26 @@ fn reply<L: Ledger>(
     }
 }
 
-/// A call of a session by UTF-16 units over a text, and the sum of the replies. The cursor is in
-/// the middle at first, and places are random.
+/// The sum of the replies to a call, so many times. The cursor is in the middle at first, and
+/// places are random.
+fn sum_of<L: Ledger>(
+    session: &mut UnitSession<'_, Pieces>,
+    call: Call,
+    rounds: u32,
+    steps: &mut Steps<L>,
+) -> Option<u64> {
+    let units = session.units();
+    let mut sum = u64::from(session.following(units / 2, steps)?);
+    let mut state = 0;
+    for _ in 0..rounds {
+        state = draw(state);
+        let found = reply(session, call, place_by(state, units), steps);
+        sum = sum.wrapping_add(u64::from(found.unwrap_or(0)));
+    }
+    Some(sum)
+}
+
+/// A call of a session by UTF-16 units over a text, so many times, and the sum of the replies.
 pub(crate) fn measure_session<L: Ledger>(
     alloc: Global,
     table: &Table,
@@ -70,13 +88,5 @@ pub(crate) fn measure_session<L: Ledger>(
     let call = call_of(name)?;
     let text = Pieces::from_raw(alloc, text).ok()?;
     let mut session = UnitSession::open(alloc, table, text, Unit::Utf16).ok()?;
-    let units = session.units();
-    let mut sum = u64::from(session.following(units / 2, steps)?);
-    let mut state = 0;
-    for _ in 0..rounds {
-        state = draw(state);
-        let found = reply(&mut session, call, place_by(state, units), steps);
-        sum = sum.wrapping_add(u64::from(found.unwrap_or(0)));
-    }
-    Some(sum)
+    sum_of(&mut session, call, rounds, steps)
 }

@@ -1,10 +1,8 @@
-//! Tests of tables and their differences, by public calls: nothing but tests.
+//! Tests of tables by public calls: nothing but tests.
 //!
-//! A crate with tests of its own is proved twice, so those of these crates stand here.
+//! A crate with tests of its own is proved twice, so those of `rbbi_table` stand here.
 #![tactic(auto)]
 
-#[cfg(test)]
-mod differences;
 #[cfg(test)]
 mod samples;
 #[cfg(test)]

@@ -185,9 +185,9 @@ module _ {A Setting : Type 0} (view : View A Setting) (session : A) (setting : S
   opened_puts puts = puts_as (ap all_reply_lines opened_replies) opened_costs puts
 
 module _ (unit : TextUnit) (table : Table) (x : List ℕ) (session : UnitSession) (is : IsOpenedBy unit table x session) where
-  pub unit_setting : unit_view.setting session ≡ record { table = table; unit = unit }
+  pub unit_setting : unit_view.setting session ≡ record { below = table; unit = unit }
   unit_setting =
-      ap (λ t. record { table = t; unit = session.unit }) is.opened.table_is ∙ ap (λ u. record { table = table; unit = u }) is.unit_is
+      ap (λ t. record { below = t; unit = session.unit }) is.opened.table_is ∙ ap (λ u. record { below = table; unit = u }) is.unit_is
 
   pub unit_state : unit_view.state session ≡ opened x
   unit_state = ap (λ s. record { text = s.text; cursor = offset_of session.unit s.text s.cursor }) is.opened.state_is

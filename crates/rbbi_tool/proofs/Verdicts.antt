@@ -1,6 +1,6 @@
 -- Tests judged one after another.
 use Rattle.std.proofs.Common.{◌≡◌, ◌<◌, ◌≤◌, ◌+◌, ℕ, zero, suc, List, [], ◌∷◌, ◌++◌, length, drop, get_or, cond, refl, sym, ap, ◌∙◌, subst, append_assoc, arith}
-use Rattle.std.specs.Prelude.{not, count_by, if◌then◌else◌, Some, slice_get}
+use Rattle.std.specs.Prelude.{not, count_by, if◌then◌else◌, ◌==◌, Some, None, slice_get, Result, Ok, Err, IfOk}
 use Rattle.std.proofs.lemmas.List.Sums.{sum_by-cons}
 use Rattle.std.proofs.lemmas.List.{drop_more, drop_all, append-nil}
 use Rattle.rbbi_model.specs.Words.{IsText}
@@ -11,8 +11,10 @@ use Rattle.rbbi_conform.specs.declared.verdict.Verdict.{Verdict}
 use Rattle.rbbi_conform.specs.declared.verdict.Verdict.TheVariants.{Same, Differs}
 use Rattle.rbbi_conform.specs.Verdicts.{IsVerdict}
 use Rattle.rbbi_tool.specs.Basis.{Basis}
-use Rattle.rbbi_tool.specs.Command.Conform.{AreVerdictsBy, is_passed, test_lines, differing_lines, failed_count}
-use Rattle.rbbi_tool.specs.inner.Judging.{AreVerdictsIn, TellsVerdicts}
+use Rattle.rbbi_model.specs.Lines.{verdicts_line}
+use Rattle.rbbi_command.specs.Refusals.{Outcome}
+use Rattle.rbbi_tool.specs.Command.Conform.{AreVerdictsBy, is_passed, test_lines, differing_lines, failed_count, told_verdicts}
+use Rattle.rbbi_tool.specs.inner.Judging.{AreVerdictsIn, TellsVerdicts, TellsTests}
 use Rattle.rbbi_tool.proofs.Bases.{GivesThem, boundaries_given}
 
 -- What verdicts on the tests that are left come to behind those so far.
@@ -98,3 +100,17 @@ verdicts_given basis table [] (v ∷ verdicts) given are = absurd are
 verdicts_given basis table (t ∷ tests) [] given are = absurd are
 verdicts_given basis table (t ∷ tests) (v ∷ verdicts) given are =
     ((table_boundaries table t.text, boundaries_given basis table t.text given are.0, are.1), verdicts_given basis table tests verdicts given are.2)
+
+-- an output with the lines and the counts reports the verdicts
+pub tells_tests : {E : Type 0} (table : Table) (tests : List Test) (lines : List ℕ) (passed failed : ℕ) → TellsVerdicts table tests lines passed failed
+    → (result : Result Outcome E) → IfOk result (λ output. output.status ≡ (if failed == 0 then 0 else 1))
+    → IfOk result (λ output. output.bytes ≡ lines ++ verdicts_line passed failed) → IfOk result (λ output. output.file ≡ None)
+    → IfOk result (TellsTests table tests)
+tells_tests table tests lines passed failed told (Ok output) status bytes file =
+    let is : output ≡ told_verdicts tests told.verdicts = λ i. record {
+      status = (status ∙ ap (λ n. if n == 0 then 0 else 1) told.failed_is) i;
+      bytes = (bytes ∙ (λ j. told.lines_are j ++ verdicts_line (told.passed_is j) (told.failed_is j))) i;
+      file = file i;
+    } in
+    (told.verdicts, told.are, is)
+tells_tests table tests lines passed failed told (Err e) status bytes file = tt

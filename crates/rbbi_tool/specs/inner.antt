@@ -6,6 +6,7 @@ pub mod Comparing
 pub mod Causes
 pub mod Calls
 pub mod Steps
+pub mod Summing
 pub mod Tallying
 pub mod Prepared
 pub mod Puts

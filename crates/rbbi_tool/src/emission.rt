@@ -7,10 +7,11 @@ ghost use Rattle.rbbi_io.specs.Sinks.{Takes, TakesFront};
 ghost use Rattle.rbbi_command.specs.Delivery.{HoldsFile, FileFailed, MakesWrite, OthersUncounted};
 ghost use Rattle.rbbi_command.specs.Delivery.{EachHoldsOrIsOutputFile};
 ghost use Rattle.rbbi_tool.specs.inner.Prepared.{bytes_of, cost_of, outcome_of, rest_of};
+ghost use Rattle.rbbi_tool.specs.declared.prepared.Lines.TheVariants.{Boundaries, Replies, Counts};
 ghost use Rattle.rbbi_tool.specs.inner.Puts.{Puts};
 
 use crate::boundaries::put_boundaries;
-use crate::prepared::{Lines, Prepared};
+use crate::prepared::{BoundaryLines, CountLines, Lines, Prepared, ReplyLines};
 use crate::replies::put_replies;
 use crate::tallying::put_tally;
 use rbbi_command::deliver;
@@ -18,6 +19,68 @@ use rbbi_io::{Files, Sink, WriteErr};
 use rbbi_text::Steps;
 use std::alloc::Global;
 use std::sync::ledger::Ledger;
+
+/// Makes the lines of boundaries, and writes them while they are made.
+fn put_boundary_lines<K: Sink, L: Ledger>(
+    alloc: Global,
+    lines: &BoundaryLines,
+    out: &mut K,
+    steps: &mut Steps<L>,
+) -> Result<(), WriteErr>
+    ensures { Puts (bytes_of (Boundaries lines.now)) (cost_of (Boundaries lines.now)) result
+        (K.taken out.old) (K.taken out.new) (K.faults out.old) (K.faults out.new)
+        steps.old steps.new }
+{
+    put_boundaries(
+        alloc,
+        &lines.table,
+        &lines.text,
+        lines.unit,
+        &lines.filter,
+        out,
+        steps,
+    )
+}
+
+/// Makes the lines of replies, and writes them while they are made.
+fn put_reply_lines<K: Sink, L: Ledger>(
+    alloc: Global,
+    lines: ReplyLines,
+    out: &mut K,
+    steps: &mut Steps<L>,
+) -> Result<(), WriteErr>
+    ensures { Puts (bytes_of (Replies lines)) (cost_of (Replies lines)) result
+        (K.taken out.old) (K.taken out.new) (K.faults out.old) (K.faults out.new)
+        steps.old steps.new }
+{
+    let ReplyLines {
+        table,
+        text,
+        unit,
+        filter,
+        commands,
+    } = lines;
+    put_replies(alloc, &table, text, unit, &filter, &commands, out, steps)
+}
+
+/// Makes the lines of counts, and writes them while they are made.
+fn put_count_lines<K: Sink, L: Ledger>(
+    alloc: Global,
+    lines: CountLines,
+    out: &mut K,
+    steps: &mut Steps<L>,
+) -> Result<(), WriteErr>
+    ensures { Puts (bytes_of (Counts lines)) (cost_of (Counts lines)) result
+        (K.taken out.old) (K.taken out.new) (K.faults out.old) (K.faults out.new)
+        steps.old steps.new }
+{
+    let CountLines {
+        table,
+        text,
+        commands,
+    } = lines;
+    put_tally(alloc, &table, text, &commands, out, steps)
+}
 
 /// Makes lines, and writes them while they are made.
 fn put_lines<K: Sink, L: Ledger>(
@@ -32,15 +95,9 @@ fn put_lines<K: Sink, L: Ledger>(
         steps.old steps.new }
 {
     match lines {
-        Lines::Boundaries(table, text, unit, filter) => {
-            put_boundaries(alloc, &table, &text, unit, &filter, out, steps)
-        }
-        Lines::Replies(table, text, unit, filter, commands) => {
-            put_replies(alloc, &table, text, unit, &filter, &commands, out, steps)
-        }
-        Lines::Counts(table, text, commands) => {
-            put_tally(alloc, &table, text, &commands, out, steps)
-        }
+        Lines::Boundaries(boundaries) => put_boundary_lines(alloc, &boundaries, out, steps),
+        Lines::Replies(replies) => put_reply_lines(alloc, replies, out, steps),
+        Lines::Counts(counts) => put_count_lines(alloc, counts, out, steps),
     }
 }
 

@@ -18,11 +18,35 @@ pub(crate) enum Prepared {
 /// Lines that are made while they are written.
 #[derive(Drop)]
 pub(crate) enum Lines {
-    /// Those of the boundaries of a text by a table, in a unit or through a filter.
-    Boundaries(Table, FileText, Unit, Option<Filter>),
-    /// Those of the replies to the commands of a script, over a text, by a table, in a unit or
-    /// through a filter.
-    Replies(Table, Pieces, Unit, Option<Filter>, Commands),
-    /// Those of the counts of a text by a table, before and after the edits of a script.
-    Counts(Table, Pieces, Commands),
+    Boundaries(BoundaryLines),
+    Replies(ReplyLines),
+    Counts(CountLines),
+}
+
+/// The lines of the boundaries of a text by a table, in a unit or through a filter.
+#[derive(Drop)]
+pub(crate) struct BoundaryLines {
+    pub(crate) table: Table,
+    pub(crate) text: FileText,
+    pub(crate) unit: Unit,
+    pub(crate) filter: Option<Filter>,
+}
+
+/// The lines of the replies to the commands of a script, over a text, by a table, in a unit or
+/// through a filter.
+#[derive(Drop)]
+pub(crate) struct ReplyLines {
+    pub(crate) table: Table,
+    pub(crate) text: Pieces,
+    pub(crate) unit: Unit,
+    pub(crate) filter: Option<Filter>,
+    pub(crate) commands: Commands,
+}
+
+/// The lines of the counts of a text by a table, before and after the edits of a script.
+#[derive(Drop)]
+pub(crate) struct CountLines {
+    pub(crate) table: Table,
+    pub(crate) text: Pieces,
+    pub(crate) commands: Commands,
 }

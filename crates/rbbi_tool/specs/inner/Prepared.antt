@@ -22,15 +22,16 @@ costs_of view session commands = costs_in (kind_of view session) (view.state ses
 
 -- the bytes of the lines
 abbrev pub bytes_of : Lines → List ℕ
-bytes_of (Boundaries table x unit filter) = boundary_lines ((kind_in filter unit table).boundaries x)
-bytes_of (Replies table x unit filter commands) = all_reply_lines (replies_in (kind_in filter unit table) (opened x) (map meaning commands))
-bytes_of (Counts table x commands) = tally_lines table x (map meaning commands)
+bytes_of (Boundaries lines) = boundary_lines ((kind_in lines.filter lines.unit lines.table).boundaries lines.text)
+bytes_of (Replies lines) =
+    all_reply_lines (replies_in (kind_in lines.filter lines.unit lines.table) (opened lines.text) (map meaning lines.commands))
+bytes_of (Counts lines) = tally_lines lines.table lines.text (map meaning lines.commands)
 
 -- how much of the text is read while the lines are made
 abbrev pub cost_of : Lines → ℕ
-cost_of (Boundaries table x unit filter) = list_cost filter table x
-cost_of (Replies table x unit filter commands) = replies_cost filter unit table x (map meaning commands)
-cost_of (Counts table x commands) = tally_cost table x (map meaning commands)
+cost_of (Boundaries lines) = list_cost lines.filter lines.table lines.text
+cost_of (Replies lines) = replies_cost lines.filter lines.unit lines.table lines.text (map meaning lines.commands)
+cost_of (Counts lines) = tally_cost lines.table lines.text (map meaning lines.commands)
 
 -- all that is written
 abbrev pub outcome_of : Prepared → Outcome

@@ -1,18 +1,19 @@
 //! The command `conform`.
-ghost use Rattle.std.specs.Prelude.{◌≡◌, ◌<◌, ◌+◌, ◌-◌, ◌^◌, ◌++◌, ◌==◌, if◌then◌else◌};
-ghost use Rattle.std.specs.Prelude.{None, IfOk, OnOk};
+ghost use Rattle.std.specs.Prelude.{◌≡◌, ◌<◌, ◌≤◌, ◌+◌, ◌-◌, ◌^◌, ◌++◌, ◌==◌, if◌then◌else◌};
+ghost use Rattle.std.specs.Prelude.{None, IfOk, OnOk, length};
 ghost use Rattle.rbbi_model.specs.Lines.{differs_line, verdicts_line};
 ghost use Rattle.rbbi_tool.specs.inner.Stages.{Meets};
 ghost use Rattle.rbbi_tool.specs.inner.Prepared.{answer_of};
 ghost use Rattle.rbbi_command.specs.Requests.{options_in};
 ghost use Rattle.rbbi_command.specs.Inputs.{inputs_in, AreShort};
-ghost use Rattle.rbbi_tool.specs.inner.Judging.{TellsVerdicts};
+ghost use Rattle.rbbi_text.specs.Bytes.{most_bytes};
+ghost use Rattle.rbbi_tool.specs.inner.Judging.{TellsVerdicts, TellsTests, tests_stage_by};
 ghost use Rattle.rbbi_tool.specs.Command.Conform as spec;
 
 use crate::prepared::Prepared;
 use crate::scripts::tests_of;
 use crate::tables::table_from;
-use rbbi_command::{Inputs, Options, Output, Refusal};
+use rbbi_command::{Input, Inputs, Options, Output, Refusal};
 use rbbi_conform::{Test, Tests, Verdict, judge};
 use rbbi_table::{FrontPlaces, Table};
 use rbbi_text::{Chars, Steps};
@@ -119,6 +120,33 @@ fn output_of(alloc: Global, report: Report) -> Result<Output, AllocError>
     })
 }
 
+/// What is reported of tests by a table.
+fn told_of<L: Ledger>(
+    alloc: Global,
+    table: &Table,
+    tests: &Tests,
+    steps: &mut Steps<L>,
+) -> Result<Output, AllocError>
+    ensures { IfOk result (TellsTests table.now tests.now) }
+{
+    let report = report_of(alloc, table, tests, steps)?;
+    output_of(alloc, report)
+}
+
+/// The verdicts on a test file, by a table.
+fn conform_by<L: Ledger>(
+    alloc: Global,
+    table: &Table,
+    file: &Input,
+    steps: &mut Steps<L>,
+) -> Result<Output, Refusal>
+    requires { length file.now.bytes ≤ most_bytes }
+    ensures { Meets (λ output. output) (tests_stage_by table.now file.now) result }
+{
+    let tests = tests_of(alloc, file, steps)?;
+    Ok(told_of(alloc, table, &tests, steps)?)
+}
+
 /// The verdicts on a test file, by a rule file or a table file.
 pub(crate) fn conform<L: Ledger>(
     alloc: Global,
@@ -131,8 +159,7 @@ pub(crate) fn conform<L: Ledger>(
         (spec.conform_stage (options_in options.now) (inputs_in inputs.now)) (answer_of result) }
 {
     let table = table_from(alloc, options, inputs, steps)?;
-    let tests = tests_of(alloc, &inputs.tests, steps)?;
     rbbi_model::same_marks_give_the_boundaries();
-    let report = report_of(alloc, &table, &tests, steps)?;
-    Ok(Prepared::Ready(output_of(alloc, report)?))
+    let output = conform_by(alloc, &table, &inputs.tests, steps)?;
+    Ok(Prepared::Ready(output))
 }

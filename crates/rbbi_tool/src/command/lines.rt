@@ -11,7 +11,7 @@ ghost use Rattle.rbbi_tool.specs.Steps.{CommandReads};
 ghost use Rattle.rbbi_tool.specs.inner.Steps.{given_bytes};
 
 use crate::filters::{FilteredTable, filtered_from};
-use crate::prepared::{Lines, Prepared};
+use crate::prepared::{BoundaryLines, CountLines, Lines, Prepared, ReplyLines};
 use crate::scripts::commands_of;
 use crate::tables::table_from;
 use crate::texts::{pieces_of, text_of};
@@ -40,7 +40,13 @@ pub(crate) fn breaks<L: Ledger>(
     filtered.searches_texts();
     rbbi_model::same_marks_give_the_boundaries();
     let FilteredTable { filter, table } = filtered;
-    Ok(Prepared::Waiting(Lines::Boundaries(table, text, options.unit, filter)))
+    let unit = options.unit;
+    Ok(Prepared::Waiting(Lines::Boundaries(BoundaryLines {
+        table,
+        text,
+        unit,
+        filter,
+    })))
 }
 
 /// The replies to a script over a text file, by a rule file or a table file, in the unit or through
@@ -65,7 +71,14 @@ pub(crate) fn run<L: Ledger>(
     rbbi_model::same_marks_give_the_boundaries();
     rbbi_model::table_replies_are_those_of_the_rules();
     let FilteredTable { filter, table } = filtered;
-    Ok(Prepared::Waiting(Lines::Replies(table, text, options.unit, filter, commands)))
+    let unit = options.unit;
+    Ok(Prepared::Waiting(Lines::Replies(ReplyLines {
+        table,
+        text,
+        unit,
+        filter,
+        commands,
+    })))
 }
 
 /// The counts of the segments of a text file by a rule file or a table file, and the replies to the
@@ -87,5 +100,9 @@ pub(crate) fn tally<L: Ledger>(
     let text = pieces_of(alloc, &inputs.text)?;
     let commands = commands_of(alloc, &inputs.script, steps)?;
     rbbi_model::same_marks_give_the_boundaries();
-    Ok(Prepared::Waiting(Lines::Counts(table, text, commands)))
+    Ok(Prepared::Waiting(Lines::Counts(CountLines {
+        table,
+        text,
+        commands,
+    })))
 }
