@@ -86,7 +86,7 @@ uint32_t rbbi_c_tally_each(rbbi_tally *, uint32_t *, size_t, uint32_t *, size_t,
 void rbbi_c_close(void *);
 
 /* The version of Unicode of the built-in tables, and what each fault is in a sentence, as
-   bin/make-c-texts prints them; the last fault has no name. */
+   tools/make/c-texts prints them; the last fault has no name. */
 extern const char rbbi_built_in_unicode[];
 extern const struct rbbi_built_in_fault {
     const char *name, *sentence;

@@ -3,7 +3,7 @@
     tailored.py NAME [RULES]
 
 prints the rule file of a name, as line-loose, made of RULES: line.rules where none is given, or
-15.0/line.rules. `bin/make-tables` writes those of line.rules beside this file.
+15.0/line.rules. `tools/make/tables` writes those of line.rules beside this file.
 
 A line of EDITS is what stands once in the rule file, and what takes its place. An edit of which no
 side stands in 15.0/line.rules has a second one, for that file. What is free is in no class, so that

@@ -1,7 +1,7 @@
 /*
  * Several threads pass the handle of one table at once: each opens sessions and a tally by it, asks,
  * edits, asks for the boundaries of a text in one call, feeds a text in two pieces, writes the table and makes handles of its own.
- * All find what the first thread finds alone. bin/check-c runs this under ThreadSanitizer, and under
+ * All find what the first thread finds alone. tools/check/c runs this under ThreadSanitizer, and under
  * helgrind, which sees the proved code as well.
  */
 #include <pthread.h>
