@@ -24,9 +24,9 @@
  * changes a table. These calls take turns, under a lock that is the library's only state, just to
  * count one more owner. All other calls need their handles to themselves: one thread at a time uses
  * a session, a tally, a scan or a list of property files, and no thread uses a handle while another
- * opens or closes it. Sessions, tallies and scans of one table may be used side by side. Handles may move
- * from thread to thread, under a lock or when a thread starts or ends. A process may fork while
- * other threads take turns: in the child a table's handle is as usable as before.
+ * opens or closes it. Sessions, tallies and scans of one table may be used side by side. Handles
+ * may move from thread to thread, under a lock or when a thread starts or ends. A process may fork
+ * while other threads take turns: in the child a table's handle is as usable as before.
  *
  * UNITS. All places and lengths of a session or a tally count the unit that it was opened in: bytes
  * of UTF-8, 16-bit units of UTF-16, or characters (code points). They begin at 0. The text of a
@@ -113,8 +113,8 @@ enum {
     RBBI_UTF16 = 2  /* 16-bit units of UTF-16 */
 };
 
-/* A fault of rules, a property file, a table file or a file of a filter. docs/rules.md and docs/formats.md have all
-   names, and rbbi_fault_message gives a sentence for each. */
+/* A fault of rules, a property file, a table file or a file of a filter. docs/rules.md and
+   docs/formats.md have all names, and rbbi_fault_message gives a sentence for each. */
 typedef struct rbbi_fault {
     char name[40];   /* its name, such as "UnknownProperty", ended by a zero */
     uint32_t line;   /* its line, from 1, or 0 if it has none */
@@ -167,14 +167,14 @@ int rbbi_table_compile(rbbi_table *table, rbbi_files *files, const void *rules, 
    `fault` may be NULL. A damaged file is refused or is a valid table. */
 int rbbi_table_load(rbbi_table *table, const void *bytes, size_t length, rbbi_fault *fault);
 
-/* Loads a built-in table: "grapheme", "word" or "sentence" by UAX #29 of Unicode 18.0, "line" by the
-   rules of UAX #14 of 17.0 over the data of 18.0, or lines as CSS tailors them: "line-strict", which
-   is "line", "line-normal" and "line-loose", and for Chinese and Japanese "line-cj",
-   "line-normal-cj" and "line-loose-cj". Statuses: of a word, that of its last
-   character that has a kind, as marks and connectors have none: 100 a digit, 200 a letter, 300
-   kana, 400 an ideograph, 0 any other; of a sentence 0 if a terminator ends it, else 100; of a line
-   100 if it ends in a character after which it must be broken, such as LF, else 0, also at the end
-   of the text; of a grapheme 0. */
+/* Loads a built-in table: "grapheme", "word" or "sentence" by UAX #29 of Unicode 18.0, "line" by
+   the rules of UAX #14 of 17.0 over the data of 18.0, or lines as CSS tailors them: "line-strict",
+   which is "line", "line-normal" and "line-loose", and for Chinese and Japanese "line-cj",
+   "line-normal-cj" and "line-loose-cj". Statuses: of a word, that of its last character that has a
+   kind, as marks and connectors have none: 100 a digit, 200 a letter, 300 kana, 400 an ideograph, 0
+   any other; of a sentence 0 if a terminator ends it, else 100; of a line 100 if it ends in a
+   character after which it must be broken, such as LF, else 0, also at the end of the text; of a
+   grapheme 0. */
 int rbbi_table_named(rbbi_table *table, const char *name);
 
 /* Makes `other` another handle of the table. */
@@ -186,9 +186,9 @@ int rbbi_table_write(rbbi_table *table, void *room, size_t size, size_t *length)
 
 void rbbi_table_close(rbbi_table *table);
 
-/* ---- a text that nobody edits: its boundaries in one call. The text stays where it is, and nothing
-   is opened or closed. Places have 64 bits and count bytes of UTF-8 or units of UTF-16, from 0; the
-   text may have any length ---- */
+/* ---- a text that nobody edits: its boundaries in one call. The text stays where it is, and
+   nothing is opened or closed. Places have 64 bits and count bytes of UTF-8 or units of UTF-16,
+   from 0; the text may have any length ---- */
 
 /* Writes the boundaries after `from` of a text in UTF-8 of `length` bytes, in order, into `places`,
    and the largest status of each into `statuses`, each of `room` numbers, and how many were written
@@ -208,16 +208,16 @@ int rbbi_breaks(rbbi_table *table, const char *text, size_t length, uint64_t fro
                 uint64_t *places, uint32_t *statuses, size_t room, size_t *count,
                 uint64_t *resume);
 
-/* The same of a text in UTF-16 of `length` units. A surrogate in no pair is answered by RBBI_LONE in
-   place of RBBI_NOT_UTF8. */
+/* The same of a text in UTF-16 of `length` units. A surrogate in no pair is answered by RBBI_LONE
+   in place of RBBI_NOT_UTF8. */
 int rbbi_breaks_utf16(rbbi_table *table, const uint16_t *text, size_t length, uint64_t from,
                       uint64_t *places, uint32_t *statuses, size_t room, size_t *count,
                       uint64_t *resume);
 
-/* Writes the segments after `from` that are words: those that have a letter or a digit of any script.
-   Where each begins goes into `starts`, where it ends into `ends`, and the largest status of its end
-   into `statuses`, each of `room` numbers. All else is as with rbbi_breaks; `resume` may lie past the
-   last word. */
+/* Writes the segments after `from` that are words: those that have a letter or a digit of any
+   script. Where each begins goes into `starts`, where it ends into `ends`, and the largest status
+   of its end into `statuses`, each of `room` numbers. All else is as with rbbi_breaks; `resume` may
+   lie past the last word. */
 int rbbi_words(rbbi_table *table, const char *text, size_t length, uint64_t from, uint64_t *starts,
                uint64_t *ends, uint32_t *statuses, size_t room, size_t *count, uint64_t *resume);
 int rbbi_words_utf16(rbbi_table *table, const uint16_t *text, size_t length, uint64_t from,
@@ -267,8 +267,8 @@ int rbbi_session_open_utf16(rbbi_session *session, rbbi_table *table, const uint
 
 /* Opens a second session, `copy`, over a copy of the text as it is, with the same table, unit and
    cursor: for a second view, or to keep what was before an edit. From then on neither changes the
-   other. It takes the time and the memory of one copy of the text, and while it runs up to twice that
-   memory. What `session` has found isn't copied, so the first questions to `copy` search. */
+   other. It takes the time and the memory of one copy of the text, and while it runs up to twice
+   that memory. What `session` has found isn't copied, so the first questions to `copy` search. */
 int rbbi_session_fork(rbbi_session *session, rbbi_session *copy);
 
 void rbbi_session_close(rbbi_session *session);
@@ -305,7 +305,8 @@ int rbbi_session_replace(rbbi_session *session, uint32_t at, uint32_t remove, co
    range isn't yet what is to be drawn: without the space in "The quick" it is empty, from 3 to 3. Of
    the new text draw all from the boundary before `from`, or from 0, to the boundary after `new_to`,
    or to the end: rbbi_session_preceding and rbbi_session_following give them. All segments that
-   changed lie there. It copies the characters that it removes first. It reads back to two characters at which each search
+   changed lie there. It copies the characters that it removes first. It reads back to two
+   characters at which each search
    ends, which by lines and sentences may be where the paragraph begins, and searches the old and the
    new text from there to a boundary after the edit at which they meet again, however far that is. */
 int rbbi_session_replace_changed(rbbi_session *session, uint32_t at, uint32_t remove,
