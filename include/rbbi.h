@@ -39,7 +39,7 @@
  * as it was. No call ends the process, writes or reads a file, or waits, but for the turns above.
  * Opening, filters, forking, editing, compiling, loading, writing, rbbi_session_text,
  * rbbi_tally_each, rbbi_breaks, rbbi_words and the calls on a scan allocate memory. Other questions
- * don't; that isn't proved, but seen by reading the code.
+ * don't, which no contract states, but the code shows.
  */
 #ifndef RBBI_H
 #define RBBI_H
@@ -130,10 +130,10 @@ typedef struct rbbi_change {
     uint32_t new_to; /* where it ends in the new text */
 } rbbi_change;
 
-/* A sentence that says what an answer is. */
+/* A sentence that describes an answer. */
 const char *rbbi_message(int answer);
 
-/* A sentence that says what a fault is, by its name, as "this quote isn't closed in its line". */
+/* A sentence that describes a fault, by its name, as "this quote isn't closed in its line". */
 const char *rbbi_fault_message(const rbbi_fault *fault);
 
 /* The version of the library, as RBBI_VERSION is that of the header. */
@@ -247,7 +247,7 @@ int rbbi_scan_feed_utf16(rbbi_scan *scan, const uint16_t *piece, size_t length, 
    next depends on what isn't fed. A search that reads up to the end of what was fed is made again once
    twice as much is there past the last boundary, or the last piece. RBBI_NOT_UTF8, RBBI_LONE,
    RBBI_TOO_LONG and RBBI_MEMORY are as with rbbi_breaks; after RBBI_MEMORY another call tries again.
-   Whatever the pieces and rooms, what is written up to RBBI_OK are the segments of the whole text. */
+   Whatever the pieces and rooms, the segments written up to RBBI_OK are those of the whole text. */
 int rbbi_scan_next(rbbi_scan *scan, uint64_t *starts, uint64_t *ends, uint32_t *statuses,
                    size_t room, size_t *count, uint64_t *place);
 
