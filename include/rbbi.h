@@ -39,7 +39,7 @@
  * as it was. No call ends the process, writes or reads a file, or waits, but for the turns above.
  * Opening, filters, forking, editing, compiling, loading, writing, rbbi_session_text,
  * rbbi_tally_each, rbbi_breaks, rbbi_words and the calls on a scan allocate memory. Other questions
- * don't, which no contract states, but the code shows.
+ * don't. That isn't proved: reading the code shows it.
  */
 #ifndef RBBI_H
 #define RBBI_H
