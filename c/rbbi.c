@@ -556,6 +556,31 @@ int rbbi_session_boundaries_before(rbbi_session *session, uint32_t from, uint32_
                                          resume);
 }
 
+int rbbi_session_redraw(rbbi_session *session, const rbbi_change *change, uint32_t *from,
+                        uint32_t *to) {
+    uint32_t start = 0, end = 0, resume;
+    size_t count;
+    if (!session || !change || !from || !to) {
+        return RBBI_NULL;
+    }
+    int answer = rbbi_session_boundaries_before(session, change->from, 0, &start, NULL, 1, &count,
+                                                &resume);
+    if (answer != RBBI_OK && answer != RBBI_ROOM) {
+        return answer;
+    }
+    answer = rbbi_session_boundaries(session, change->new_to, UINT32_MAX, &end, NULL, 1, &count,
+                                     &resume);
+    if (answer == RBBI_OK && !count) {
+        answer = rbbi_session_length(session, &end);
+    }
+    if (answer != RBBI_OK && answer != RBBI_ROOM) {
+        return answer;
+    }
+    *from = start;
+    *to = end;
+    return RBBI_OK;
+}
+
 int rbbi_session_segment(rbbi_session *session, uint32_t at, uint32_t *from, uint32_t *to,
                          uint32_t *status) {
     if (!session || !from || !to || !status) {

@@ -276,8 +276,9 @@ void rbbi_session_close(rbbi_session *session);
 /* ---- filters, which suppress boundaries or map characters before a search. These calls turn an
    open session into one through a filter, over the same text and table, in the same unit; it
    copies no text. The cursor goes to 0. From then on all calls below serve the session but
-   rbbi_session_replace_changed, rbbi_session_boundaries, rbbi_session_boundaries_before and
-   rbbi_session_segment. Those, rbbi_session_fork and a second filter answer RBBI_FILTERED.
+   rbbi_session_replace_changed, rbbi_session_redraw, rbbi_session_boundaries,
+   rbbi_session_boundaries_before and rbbi_session_segment. Those, rbbi_session_fork and a second
+   filter answer RBBI_FILTERED.
    RBBI_FAULT: "NotUtf8" with the byte, or "BadLine" with the line. RBBI_TOO_LONG: the file has more
    than 65,536 bytes. `fault` may be NULL. ---- */
 
@@ -302,15 +303,20 @@ int rbbi_session_replace(rbbi_session *session, uint32_t at, uint32_t remove, co
    it and outside of which boundaries and their statuses are the old ones. A place before `from` is a
    boundary exactly if it was one, and a place after `new_to` exactly if the place as far after
    `old_to` was one, with the same statuses. At both ends of the range boundaries may differ. So the
-   range isn't yet what is to be drawn: without the space in "The quick" it is empty, from 3 to 3. Of
-   the new text draw all from the boundary before `from`, or from 0, to the boundary after `new_to`,
-   or to the end: rbbi_session_preceding and rbbi_session_following give them. All segments that
-   changed lie there. It copies the characters that it removes first. It reads back to two
-   characters at which each search
-   ends, which by lines and sentences may be where the paragraph begins, and searches the old and the
-   new text from there to a boundary after the edit at which they meet again, however far that is. */
+   range isn't yet what is to be drawn: without the space in "The quick" it is empty, from 3 to 3.
+   rbbi_session_redraw gives that. It copies the characters that it removes first. It reads back to two
+   characters at which each search ends, which by lines and sentences may be where the paragraph
+   begins, and searches the old and the new text from there to a boundary after the edit at which they
+   meet again, however far that is. */
 int rbbi_session_replace_changed(rbbi_session *session, uint32_t at, uint32_t remove,
                                  const char *insert, size_t length, rbbi_change *change);
+
+/* What is to be drawn again after the edit of this change: the new text from the boundary before
+   `change->from`, or from 0, to the boundary after `change->new_to`, or to the end. All segments that
+   changed lie there: without the space in "The quick" it is 0 to 8. Ask before the next edit. The
+   cursor stays where it is. */
+int rbbi_session_redraw(rbbi_session *session, const rbbi_change *change, uint32_t *from,
+                        uint32_t *to);
 
 /* Replaces them by the `length` units of UTF-16 at `insert`. RBBI_LONE: as above. */
 int rbbi_session_replace_utf16(rbbi_session *session, uint32_t at, uint32_t remove,

@@ -159,6 +159,22 @@ static void compare_change(const listed *old, const listed *new, uint32_t at, ui
          "the end");
 }
 
+/* Compares what is to be drawn again with the boundaries around what changed. */
+static void compare_redraw(rbbi_session *session, const listed *new, rbbi_change change) {
+    uint32_t from = 0, to, start = 7, end = 7, cursor, after;
+    must(rbbi_session_length(session, &to), "length");
+    for (size_t i = 0; i < new->count; i++) {
+        from = new->places[i] < change.from ? new->places[i] : from;
+    }
+    for (size_t i = new->count; i > 0; i--) {
+        to = new->places[i - 1] > change.new_to ? new->places[i - 1] : to;
+    }
+    must(rbbi_session_current(session, &cursor), "current");
+    must(rbbi_session_redraw(session, &change, &start, &end), "redraw");
+    must(rbbi_session_current(session, &after), "current");
+    same(start == from && end == to && cursor == after, "what is drawn again");
+}
+
 /* Whether the session has a filter. */
 static int filtered;
 
@@ -178,6 +194,7 @@ static int edit(rbbi_session *session, uint32_t at, uint32_t remove, const char 
     rbbi_session_close(&before);
     if (answer == RBBI_OK) {
         compare_change(&old, &new, at, remove, change);
+        compare_redraw(session, &new, change);
     } else {
         same(change.from == 7 && change.old_to == 7 && change.new_to == 7, "a refused edit");
     }
@@ -254,13 +271,14 @@ static void compare_back(rbbi_session *session, uint32_t from, uint32_t to) {
 /* Calls that serve no session with a filter say so, and leave the cursor. */
 static void compare_refused(rbbi_session *session) {
     rbbi_session copy = RBBI_INIT;
-    rbbi_change change;
+    rbbi_change change = {0, 0, 0};
     uint32_t cursor, now, number;
     size_t count;
     must(rbbi_session_current(session, &cursor), "current");
     int refused[] = {
         rbbi_session_fork(session, &copy),
         rbbi_session_replace_changed(session, 0, 0, "a", 1, &change),
+        rbbi_session_redraw(session, &change, &number, &number),
         rbbi_session_boundaries(session, 0, 9, NULL, NULL, 0, &count, &number),
         rbbi_session_boundaries_before(session, 9, 0, NULL, NULL, 0, &count, &number),
         rbbi_session_segment(session, 0, &number, &number, &number),

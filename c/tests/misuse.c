@@ -116,6 +116,7 @@ int main(void) {
 
     /* what an edit changed */
     rbbi_change change = {77, 78, 79};
+    uint32_t resume = 77;
     IS(rbbi_session_replace_changed(&session, 0, 0, "x", 1, NULL), RBBI_NULL);
     IS(rbbi_session_replace_changed(&session, 0, 0, NULL, 1, &change), RBBI_NULL);
     IS(rbbi_session_replace_changed(&session, 6, 2, "", 0, &change), RBBI_OUTSIDE);
@@ -126,9 +127,14 @@ int main(void) {
     IS(change.from == 5 && change.old_to == 7 && change.new_to == 9, 1);
     IS(rbbi_session_replace_changed(&session, 5, 4, "\xf0\x9f\x98\x80", 4, &change), RBBI_OK);
     IS(change.from == 5 && change.old_to == 9 && change.new_to == 7, 1);
+    IS(rbbi_session_redraw(&session, NULL, &told, &resume), RBBI_NULL);
+    IS(rbbi_session_redraw(&session, &change, &told, NULL), RBBI_NULL);
+    IS(rbbi_session_redraw(&session, &change, &told, &resume), RBBI_OK);
+    IS(told == 3 && resume == 7, 1);
+    IS(rbbi_session_redraw((rbbi_session *)&files, &change, &told, &resume), RBBI_HANDLE);
 
     /* many boundaries, a segment and the text */
-    uint32_t places[2], statuses_of_two[2] = {77, 77}, resume = 77;
+    uint32_t places[2], statuses_of_two[2] = {77, 77};
     char room[4];
     IS(rbbi_session_boundaries(&session, 0, 9, NULL, NULL, 2, &count, &resume), RBBI_NULL);
     IS(rbbi_session_boundaries(&session, 0, 9, places, NULL, 2, &count, NULL), RBBI_NULL);

@@ -153,9 +153,11 @@ class Sessions(unittest.TestCase):
             change = session.replace_changed(3, 2, "x'y")
             self.assertEqual(change, (3, 5, 6))
             self.assertEqual((change.start, change.old_end, change.new_end), (3, 5, 6))
+            self.assertEqual(session.redraw(change), (2, 7))
             self.assertEqual([segment.end for segment in session], [2, 3, 6, 7, 9])
+            self.assertEqual(session.redraw(session.replace_changed(0, 0, 'a')), (0, 3))
             with self.assertRaises(Error) as caught:
-                session.replace_changed(9, 1, '')
+                session.replace_changed(10, 1, '')
             self.assertEqual(caught.exception.answer, Answer.OUTSIDE)
 
     def test_filters_leave_boundaries_out_or_turn_characters(self):

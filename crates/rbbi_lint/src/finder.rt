@@ -1,8 +1,9 @@
 //! The pieces of a rule file that are left out, one after another.
 //!
-//! They are each active rule, each alternative of several, and each character and range of a set
-//! that has several parts. Alternatives and sets are those of active rules and of the variables
-//! that they use. A name, a property or a set within a set isn't left out, to keep them few.
+//! They are each active rule, each alternative of several, and each part of a set that has several:
+//! a character, a range, a name, a property or a set. Alternatives and sets are those of active
+//! rules and of the variables that they use. With a part the operator before it is left out, and the
+//! first part before an operator isn't left out.
 
 ghost use Rattle.std.specs.Prelude.{◌<◌, length};
 
@@ -108,7 +109,7 @@ impl Finder {
             (TokenKind::Hyphen, Last::Character) if !is_last => set.last = Last::Hyphen,
             (TokenKind::Char { .. }, Last::Hyphen) => set.last = Last::Other,
             _ => {
-                self.end_member(set, token)?;
+                self.end_member(set, token, is_last)?;
                 begin_part(&mut set, token, is_last);
             }
         }
@@ -122,30 +123,42 @@ impl Finder {
         Ok(())
     }
 
-    /// Ends the character or the range that stands last in a set, before a token. The only part of
-    /// a set is left where it is.
-    fn end_member(&mut self, set: OpenSet, token: &Token) -> Result<(), AllocError> {
-        let is_only = set.parts == 1 && matches!(&token.kind, TokenKind::SetClose);
+    /// Ends the part that stands last in a set, before a token. The only part of a set is left where
+    /// it is, and so is the first one before an operator.
+    fn end_member(&mut self, set: OpenSet, token: &Token, is_last: bool) -> Result<(), AllocError> {
+        let is_open = set.last == Last::Operator;
+        let is_needed = set.parts == 1 && (is_operator(token, is_last) || is_closing(token));
         match set.member {
-            Some(from) if !is_only => self.add(Part::Member, from, token.place),
+            Some(from) if !is_open && !is_needed => self.add(Part::Member, from, token.place),
             _ => Ok(()),
         }
+    }
+}
+
+/// Whether a token ends a set.
+fn is_closing(token: &Token) -> bool {
+    matches!(&token.kind, TokenKind::SetClose)
+}
+
+/// Whether a token after a part of a set is an operator. `is_last` tells whether the set ends after
+/// it.
+fn is_operator(token: &Token, is_last: bool) -> bool {
+    match &token.kind {
+        TokenKind::Hyphen => !is_last,
+        TokenKind::Amp => true,
+        _ => false,
     }
 }
 
 /// Begins a part of a set at a token, or goes past an operator.
 fn begin_part(set: &mut OpenSet, token: &Token, is_last: bool) {
     let place = token.place;
+    let is_literal = set.last == Last::Opening;
     match &token.kind {
-        TokenKind::Char { .. } => set.begin(Some(place), Last::Character),
-        TokenKind::Hyphen if is_last || set.last == Last::Opening => {
-            set.begin(Some(place), Last::Other);
-        }
-        TokenKind::Hyphen | TokenKind::Amp => {
-            set.last = Last::Other;
-            set.member = None;
-        }
-        _ => set.begin(None, Last::Other),
+        TokenKind::Char { .. } => set.begin(place, Last::Character),
+        TokenKind::Hyphen if is_literal => set.begin(place, Last::Other),
+        _ if is_operator(token, is_last) => set.join(place),
+        _ => set.begin(place, Last::Other),
     }
 }
 

@@ -111,7 +111,7 @@ fn unused_of(alloc: Global, statements: &[Statement<'_>]) -> Result<Vec<u32>, Al
 }
 
 /// The pieces of a text that means these rules which `lint` leaves out, one after another: active
-/// rules, alternatives, and characters and ranges of sets. A piece comes before those within it.
+/// rules, alternatives, and parts of sets. A piece comes before those within it.
 ///
 /// The text has at most 100,663,296 bytes.
 pub fn pieces(alloc: Global, text: &str, rules: &Rules) -> Result<Vec<Piece>, AllocError>

@@ -9,6 +9,8 @@ pub(crate) enum Last {
     Character,
     /// The `-` of a range.
     Hyphen,
+    /// The `-` or `&` before an operand.
+    Operator,
     /// Anything else.
     Other,
 }
@@ -17,7 +19,7 @@ pub(crate) enum Last {
 #[derive(Clone, Copy)]
 pub(crate) struct OpenSet {
     pub last: Last,
-    /// Where the character or the range begins that stands last.
+    /// Where the part begins that stands last, with the operator before it.
     pub member: Option<u32>,
     /// How many parts it has so far.
     pub parts: u32,
@@ -31,11 +33,20 @@ impl OpenSet {
         parts: 0,
     };
 
-    /// Goes past the first token of a part, at which a character or a range begins or not.
-    pub fn begin(&mut self, member: Option<u32>, last: Last) {
+    /// Goes past the first token of a part, which stands at this place. An operator before it is
+    /// of the part.
+    pub fn begin(&mut self, place: u32, last: Last) {
+        if self.last != Last::Operator {
+            self.member = Some(place);
+        }
         self.last = last;
-        self.member = member;
         self.parts = self.parts.saturating_add(1);
+    }
+
+    /// Goes past the operator before a part, which stands at this place.
+    pub fn join(&mut self, place: u32) {
+        self.last = Last::Operator;
+        self.member = Some(place);
     }
 }
 

@@ -1,4 +1,4 @@
-//! What a rule file has that changes nothing: rules, alternatives and characters of sets that can
+//! What a rule file has that changes nothing: rules, alternatives and parts of sets that can
 //! be left out, variables that no rule uses, rules that can match the empty text, and statuses that
 //! are never shown. And what it has that likely means something else than was meant.
 #![tactic(auto)]

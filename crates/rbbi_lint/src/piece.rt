@@ -7,7 +7,8 @@ pub enum Part {
     Rule,
     /// An alternative with the `|` that joins it.
     Alternative,
-    /// A character or a range of a set.
+    /// A part of a set: a character, a range, a name, a property or a set, with the operator before
+    /// it.
     Member,
 }
 

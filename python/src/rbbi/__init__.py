@@ -22,8 +22,8 @@ import sys
 import threading
 from array import array
 from bisect import bisect_left, bisect_right
-from typing import (Any, Callable, ClassVar, Iterable, Iterator, NamedTuple, Optional, TypeVar,
-                    Union)
+from typing import (Any, Callable, ClassVar, Iterable, Iterator, NamedTuple, Optional, Tuple,
+                    TypeVar, Union)
 
 from ._library import (LIBRARY, Answer, CChange, CFault, Error, Fault, Handle, LoneSurrogate,
                        checked)
@@ -337,8 +337,8 @@ class Session(_Closing):
         """From now on a boundary after an abbreviation, such as `Mr.`, isn't reported.
 
         `abbreviations` is a file of them, one a line (docs/formats.md). The cursor goes to 0. From
-        then on `fork`, `replace_changed`, `segment`, `boundaries`, `boundaries_before` and a second
-        filter raise `Error`. Raises `Fault` for a fault of the file.
+        then on `fork`, `replace_changed`, `redraw`, `segment`, `boundaries`, `boundaries_before` and
+        a second filter raise `Error`. Raises `Fault` for a fault of the file.
         """
         self._filter(LIBRARY.rbbi_session_suppress, _bytes(abbreviations))
 
@@ -440,15 +440,27 @@ class Session(_Closing):
         """The same edit, which returns what it changed.
 
         That is the least range that has the edit in it and outside of which boundaries are as before.
-        At both of its ends they may differ. So an editor draws from `preceding(start)`, or from 0,
-        to `following(new_end)`, or to the end: without the space in "The quick" the range is empty,
-        and its segment is new.
+        At both of its ends they may differ: without the space in "The quick" the range is empty, and
+        its segment is new. `redraw` gives what is to be drawn again.
         """
         insert, change = _bytes(insert), CChange()
         with self._lock:
             checked(LIBRARY.rbbi_session_replace_changed(self._ref, _number(at), _number(remove),
                                                          insert, len(insert), ctypes.byref(change)))
         return Change(change.start, change.old_end, change.new_end)
+
+    def redraw(self, change: Change) -> Tuple[int, int]:
+        """What is to be drawn again after the edit of this change: a start and an end.
+
+        They are the boundary before `start`, or 0, and the one after `new_end`, or the end. All
+        segments that changed lie there. Ask before the next edit. The cursor stays where it is.
+        """
+        told = CChange(*map(_number, change))
+        numbers = ctypes.c_uint32(), ctypes.c_uint32()
+        with self._lock:
+            checked(LIBRARY.rbbi_session_redraw(self._ref, ctypes.byref(told),
+                                                *map(ctypes.byref, numbers)))
+        return numbers[0].value, numbers[1].value
 
     def replace_utf16(self, at: int, remove: int, units: Any) -> None:
         """Replaces `remove` units from `at` on by a text in UTF-16, and sets the cursor to 0.

@@ -147,6 +147,7 @@ def _loaded() -> Any:
         'session_tailor': [handle, text, size, fault],
         'session_replace': [handle, number, number, text, size],
         'session_replace_changed': [handle, number, number, text, size, ctypes.POINTER(CChange)],
+        'session_redraw': [handle, ctypes.POINTER(CChange), numbers, numbers],
         'session_replace_utf16': [handle, number, number, room, size, numbers],
         'session_text': [handle, number, number, room, size, count],
         'session_length': [handle, numbers],

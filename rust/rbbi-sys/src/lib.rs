@@ -193,6 +193,12 @@ extern "C" {
         length: usize,
         change: *mut rbbi_change,
     ) -> c_int;
+    pub fn rbbi_session_redraw(
+        session: *mut rbbi_handle,
+        change: *const rbbi_change,
+        from: *mut u32,
+        to: *mut u32,
+    ) -> c_int;
     pub fn rbbi_session_replace_utf16(
         session: *mut rbbi_handle,
         at: u32,

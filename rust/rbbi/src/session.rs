@@ -2,6 +2,7 @@
 use crate::error::{checked, checked_utf16, with_fault, Error};
 use rbbi_sys::{rbbi_change, rbbi_handle, RBBI_INIT, RBBI_OK, RBBI_ROOM};
 use std::ffi::c_int;
+use std::ops::Range;
 
 /// What places, lengths and numbers of a session count.
 #[derive(Clone, Copy, Debug, PartialEq, Eq)]
@@ -93,8 +94,8 @@ impl Session {
 
     /// From now on a boundary after an abbreviation, such as `Mr.`, isn't reported. The cursor goes
     /// to 0. `abbreviations` is a file of them, one a line (docs/formats.md). From then on `fork`,
-    /// `replace_changed`, `segment`, `boundaries`, `boundaries_before` and a second filter refuse
-    /// `Filtered`.
+    /// `replace_changed`, `redraw`, `segment`, `boundaries`, `boundaries_before` and a second filter
+    /// refuse `Filtered`.
     pub fn suppress(&mut self, abbreviations: &[u8]) -> Result<(), Error> {
         let (file, length) = (abbreviations.as_ptr().cast(), abbreviations.len());
         // SAFETY: the handle holds a session, and the file is live.
@@ -207,9 +208,9 @@ impl Session {
     }
 
     /// The same edit, which also returns what it changed: the least range that has the edit in it and
-    /// outside of which all boundaries are the old ones. At both of its ends they may differ. So an
-    /// editor draws from the boundary before `from`, or from 0, to the one after `new_to`, or to the
-    /// end: without the space in "The quick" the range is empty, and its segment is new.
+    /// outside of which all boundaries are the old ones. At both of its ends they may differ: without
+    /// the space in "The quick" the range is empty, and its segment is new. [`Session::redraw`] gives
+    /// what is to be drawn again.
     pub fn replace_changed(&mut self, at: u32, remove: u32, insert: &str) -> Result<Change, Error> {
         let (text, length) = (insert.as_ptr().cast(), insert.len());
         let mut change = rbbi_change {
@@ -232,6 +233,24 @@ impl Session {
             old_to,
             new_to,
         })
+    }
+
+    /// What is to be drawn again after the edit of this change: the new text from the boundary before
+    /// `from`, or from 0, to the one after `new_to`, or to the end. All segments that changed lie
+    /// there. Ask before the next edit. The session's cursor stays.
+    pub fn redraw(&mut self, change: &Change) -> Result<Range<u32>, Error> {
+        let told = rbbi_change {
+            from: change.from,
+            old_to: change.old_to,
+            new_to: change.new_to,
+        };
+        let (mut start, mut end) = (0, 0);
+        // SAFETY: the handle holds a session, and the change and the numbers are live.
+        checked(unsafe {
+            let handle = &mut self.handle;
+            rbbi_sys::rbbi_session_redraw(handle, &told, &mut start, &mut end)
+        })?;
+        Ok(start..end)
     }
 
     /// Replaces `remove` units from `at` on by a text in UTF-16, and sets the cursor to 0.

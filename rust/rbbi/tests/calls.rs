@@ -179,6 +179,7 @@ fn an_edit_tells_what_it_changed() {
         new_to: 6,
     };
     assert_eq!((change, ends(&mut session)), (wanted, vec![2, 3, 6, 7, 9]));
+    assert_eq!(session.redraw(&change), Ok(2..7));
     assert_eq!(session.replace_changed(9, 1, ""), Err(Error::Outside));
     assert_eq!(session.text(0, 9).as_deref(), Ok("ab x'y cd"));
 }
