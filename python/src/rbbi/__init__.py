@@ -84,6 +84,9 @@ _MOST = (1 << 32) - 1
 _ROOM = 1 << 14
 """How many boundaries one call lists."""
 
+_SPAN = 1 << 14
+"""Over how much of a text the segments of a session are listed at once."""
+
 
 def _bytes(text: Text) -> bytes:
     return text.encode() if isinstance(text, str) else text
@@ -535,20 +538,31 @@ class Session(_Closing):
         return Boundaries(places, statuses)
 
     def segments(self) -> Iterator[Segment]:
-        """Each segment, from the start of the text on. It moves the cursor as it goes."""
-        start = self.first()
-        go_on, tell, number = LIBRARY.rbbi_session_next, LIBRARY.rbbi_session_status, self._place
-        while True:
-            with self._lock:
-                answer = go_on(self._ref, self._place_ref)
-                end = number.value
-                if answer == 0:
-                    answer = tell(self._ref, self._place_ref)
-                status = number.value
-            if checked(answer) == Answer.DONE:
+        """Each segment, from the start of the text on. Edit the text when the iteration has ended.
+
+        The cursor stays where it is; through a filter it moves along.
+        """
+        start, low, length = 0, 0, self.length()
+        while low < length:
+            high = min(low + _SPAN, length)
+            try:
+                listed = self.boundaries(low, high)
+            except Error as error:
+                if error.answer != Answer.FILTERED:
+                    raise
+                yield from self._visited()
                 return
-            yield Segment(start, end, status)
-            start = end
+            for end, status in zip(*listed):
+                yield Segment(start, end, status)
+                start = end
+            low = high
+
+    def _visited(self) -> Iterator[Segment]:
+        """Each segment, which the cursor visits one after another."""
+        start, end = self.first(), self.next()
+        while end is not None:
+            yield Segment(start, end, self.status())
+            start, end = end, self.next()
 
     __iter__ = segments
 
