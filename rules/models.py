@@ -436,6 +436,10 @@ QUOTES = {0x201C: 'OP', 0x201D: 'CL'}
 # quotes, and that a wide prefix may be joined to a number before it, a wide suffix to what follows.
 FREE = {'loose': ITERATION, 'normal-cj': KANA_HYPHENS, 'loose-cj': ITERATION | KANA_HYPHENS | CENTERED}
 
+# Where a line may be broken before a hyphen, letters after it are joined to it, as LB20a has it elsewhere.
+# No line may be broken after ZWJ, so what LB9 leaves out counts here.
+AFTER_BREAK = 'LB20a  ID ((CM | ZWJ)* CM)? [Hyphen - BA] (CM | ZWJ)* × (AL | HL)\n'
+
 TAILORED_RULES = {
     '× IN': '[^ IN] × IN',
     '× (BA | HY | NS)': '× ([BA - Hyphen] | HY | NS)\nLB21   [^ ID] × Hyphen',
@@ -453,6 +457,8 @@ def tailored_rules(text, tailoring):
     for old, new in TAILORED_RULES.items():
         if tailoring == 'loose-cj' or tailoring == 'loose' and old == '× IN':
             text = text.replace(old + '\n', new + '\n') if old.startswith('×') else text.replace(old, new)
+    if tailoring == 'loose-cj' and 'LB20a' in text:
+        text = text.replace('LB9 ', AFTER_BREAK + 'LB9 ')
     return text
 
 
