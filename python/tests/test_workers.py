@@ -41,7 +41,7 @@ def whole(table, name):
     statuses, total = Counter(), 0
     with open(name, 'rb') as file:
         text = file.read()
-    for places, found in chunks(table._lock, table._ref, text, len(text), 'rbbi_breaks', 2):
+    for places, found in chunks(table._ref, text, len(text), 'rbbi_breaks', 2):
         statuses.update(found.cast('I'))
         total += sum(places.cast('Q'))
     return statuses, total
